@@ -19,7 +19,6 @@ use Rattle.j39_vehicle.specs.declared.vehicle.bus_plan.BusPlan.{BusPlan}
 use Rattle.j39_vehicle.specs.declared.vehicle.forward.Forward.{Forward}
 use Rattle.j39_vehicle.specs.declared.vehicle.forward.ForwardedSignal.{ForwardedSignal}
 use Rattle.j39_vehicle.specs.declared.vehicle.places.GroupAt.{GroupAt}
-use Rattle.j39_vehicle_findings.specs.Buses.{group_at}
 use Rattle.j39_vehicle_findings.specs.ForwardEnds.{Copies, Feeds, listed}
 use Rattle.j39_vehicle_findings.specs.ForwardTests.{copies}
 use Rattle.j39_vehicle_findings.specs.Matching.{Agree}

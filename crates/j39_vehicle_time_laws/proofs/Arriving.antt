@@ -1,10 +1,13 @@
 -- Where gateways pass values on, what is read at the origin is read where the way ends.
-use Rattle.std.proofs.Common.{◌≡◌, ℕ, [], true, Some, refl, sym, ◌∙◌, subst}
+use Rattle.std.proofs.Common.{◌≡◌, ℕ, [], true, Some, refl, sym, ap, ◌∙◌, subst}
 use Rattle.std.specs.Prelude.{ℤ}
-use Rattle.std.proofs.lemmas.Option.{same_Some}
+use Rattle.std.proofs.lemmas.Option.{none-some, same_Some}
+use Rattle.std.specs.List.{slice_get}
+use Rattle.std.specs.Option.{option_map_or}
 use Rattle.j39_signal.specs.declared.signal_parts.SignalParts.{SignalParts}
 use Rattle.j39_signal.specs.declared.state.State.TheVariants.{Value}
 use Rattle.j39_vehicle.specs.declared.vehicle.Vehicle.{Vehicle}
+use Rattle.j39_vehicle_findings.specs.ForwardEnds.{listed}
 use Rattle.j39_vehicle_findings.specs.VehicleFindings.{AreFindings}
 use Rattle.j39_vehicle_findings.specs.declared.point.Point.{Point}
 use Rattle.j39_vehicle_laws.specs.Carrying.{AreAllExact, is_exact, signal_at}
@@ -13,6 +16,7 @@ use Rattle.j39_vehicle_laws.specs.Reading.{reading}
 use Rattle.j39_vehicle_laws.proofs.Bringing.{divisor_of, each_behind, each_here, goes_by}
 use Rattle.j39_vehicle_laws.proofs.Hops.{passed_over}
 use Rattle.j39_vehicle_laws.proofs.Values.{one_value_passes}
+use Rattle.j39_vehicle_time_laws.specs.MessagesSentOn.{DoCopiesCarryValues}
 use Rattle.j39_vehicle_time_laws.specs.Seen.{SeenBuses}
 use Rattle.j39_vehicle_time_laws.specs.ValuesArrive.{DoValuesArrive, PassValuesOn}
 use Rattle.j39_vehicle_time_laws.specs.YoungValues.{BringsFrame, IsOnTheWay, at_its_origin, behind_it, by_forward, itself}
@@ -39,3 +43,15 @@ arrives_from v clean seen start passes origin first (by_forward p x frame carrie
 pub values_arrive : (v : Vehicle) → AreFindings v [] → DoValuesArrive v
 values_arrive v clean seen p frame born brought passes all =
     arrives_from v clean seen p passes brought.origin brought.first brought.brings itself all
+
+-- a copy carries all that it copies
+pub copies_carry : (v : Vehicle) → DoCopiesCarryValues v
+copies_carry v forward bytes copy =
+    let none : listed forward ≡ [] = ap (λ o. option_map_or (λ signals. signals.items) o []) copy in
+    record {
+      keeps = record {
+        copied = λ _. refl;
+        taken = λ k f t f_is t_is. absurd (none-some _ (sym (ap (λ l. slice_get l k) none) ∙ f_is));
+      };
+      passes = λ k f s t a f_is s_is t_is reads value. absurd (none-some _ (sym (ap (λ l. slice_get l k) none) ∙ f_is));
+    }

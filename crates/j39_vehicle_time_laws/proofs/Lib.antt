@@ -5,6 +5,8 @@ mod Circle
 mod Feeders
 mod Kept
 mod LoneFlow
+mod LoneSteps
+mod LoneWay
 mod Old
 mod OneFlow
 mod Order
@@ -14,6 +16,7 @@ mod PlainTimes
 mod SentOn
 mod Starts
 mod Timely
+mod TwoBuses
 mod Until
 mod ValuesBrought
 mod Whole

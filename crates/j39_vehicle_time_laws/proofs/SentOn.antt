@@ -1,154 +1,52 @@
 -- What is seen of a vehicle where messages are sent, a period apart, and sent on.
-use Rattle.std.proofs.Common.{◌≡◌, ◌≢◌, ℕ, suc, ◌+◌, ◌*◌, ◌/◌, ◌<◌, ◌≤◌, ◌⊎◌, Bool, true, false, eqb, if◌then◌else◌, List, [], Option, Some, None, refl, sym, ap}
+use Rattle.std.proofs.Common.{◌≡◌, ◌≢◌, ℕ, suc, ◌+◌, ◌*◌, ◌/◌, ◌<◌, ◌≤◌, ◌⊎◌, true, false, eqb, List, [], Option, Some, refl, sym, ap}
 use Rattle.std.proofs.Common.{◌∙◌, subst, inl, inr, arith}
-use Rattle.std.proofs.lemmas.Bool.{cases_Bool, cases_eq, cases_lt, eq-eqb, eqb-true, true≢false}
+use Rattle.std.proofs.lemmas.Bool.{cases_Bool, cases_eq, eq-eqb, eqb-true, true≢false}
 use Rattle.std.proofs.Math.Nat.{div-mul-le_self, lt-div-mul-add, mul-le-mul_left, mul-le-mul_right}
 use Rattle.std.proofs.lemmas.Option.{none-some, same_Some}
 use Rattle.std.specs.List.{slice_get}
-use Rattle.std.specs.Option.{option_and_then, option_map, option_map_or}
+use Rattle.std.specs.Option.{option_and_then, option_map}
 use Rattle.j39_network.specs.declared.plan.flow_plan.FlowPlan.{FlowPlan}
 use Rattle.j39_network.specs.declared.plan.pace.Pace.{Pace}
-use Rattle.j39_network.specs.declared.plan.timing.Bitrate.{Bitrate}
-use Rattle.j39_network.specs.declared.plan.timing.Bitrate.TheVariants.{Kbit125, Kbit250, Kbit500, Mbit1}
 use Rattle.j39_network.specs.declared.plan.timing.Timing.{Timing}
 use Rattle.j39_load.specs.declared.waits.delay.Delay.{Delay}
 use Rattle.j39_load.specs.declared.waits.delay.Delay.TheVariants.{Within}
 use Rattle.j39_load.specs.Asked.{frames_asked}
 use Rattle.j39_load.specs.BusTimes.{timing_of}
-use Rattle.j39_load.specs.Clocks.{IsTrueTime, bit_time, longest_million, million, shortest_million}
+use Rattle.j39_load.specs.Clocks.{longest_million, million, shortest_million}
 use Rattle.j39_load.specs.Loads.{bits_at_least, bits_per_ms}
 use Rattle.j39_load.specs.declared.frames.flow_frames.FlowFrames.{FlowFrames}
-use Rattle.j39_load.proofs.Milliseconds.{faster, slower, some_fast, some_own}
+use Rattle.j39_load.proofs.Milliseconds.{faster, slower, some_own}
 use Rattle.j39_timing.specs.Traffic.{Traffic}
 use Rattle.j39_gateways.specs.Gateways.{Carrier, HasBegun, IsHandedOn, IsIts, end_time, queue_time}
 use Rattle.j39_vehicle.specs.declared.vehicle.Vehicle.{Vehicle}
 use Rattle.j39_vehicle.specs.declared.vehicle.bus_plan.BusPlan.{BusPlan}
 use Rattle.j39_vehicle.specs.declared.vehicle.forward.Forward.{Forward}
 use Rattle.j39_vehicle_findings.specs.ForwardTests.{feeds, is_direct}
-use Rattle.j39_vehicle_findings.specs.ForwardEnds.{listed}
 use Rattle.j39_vehicle_findings.specs.Traces.{goes_on, next_forward}
 use Rattle.j39_vehicle_findings.specs.declared.point.FlowAt.{FlowAt}
 use Rattle.j39_vehicle_findings.specs.declared.point.Point.{Point}
 use Rattle.j39_vehicle_times.specs.BusDelays.{AreDelays, delays_on}
 use Rattle.j39_vehicle_times.specs.TimeFindings.{period_ms}
-use Rattle.j39_vehicle_times.specs.Times.{bits_within, delay_at, direct_feeder, flow_at, forward_at, first_input_at, own_of, timing_on, unasked_at, us_of_ms, within_of}
+use Rattle.j39_vehicle_times.specs.Times.{bits_within, delay_at, direct_feeder, forward_at, first_input_at, own_of, timing_on, unasked_at, us_of_ms, within_of}
 use Rattle.j39_vehicle_times.specs.declared.bus_delays.Delays.{Delays}
 use Rattle.j39_vehicle_times.proofs.DecidingTimes.{and_then_some, map_some}
 use Rattle.j39_vehicle_time_laws.specs.ForwardedStreams.{AreOtherwiseKept, IsOtherwiseKept, streams_of}
 use Rattle.j39_vehicle_time_laws.specs.KeptBuses.{IsKnownBus, asked_on}
-use Rattle.j39_vehicle_time_laws.specs.MessagesSentOn.{CanBeSentOn, CanMessagesBeSentOn, CarriesValues, DoCopiesCarryValues, IsLoneForward, IsPacedFlow, IsTracedBy}
+use Rattle.j39_vehicle_time_laws.specs.MessagesSentOn.{CanBeSentOn, CanMessagesBeSentOn, CarriesValues, IsLoneForward, IsPacedFlow}
 use Rattle.j39_vehicle_time_laws.specs.Prompt.{ArePrompt, IsSentDirectly, IsSentOn, scope_on, whole_vehicle}
 use Rattle.j39_vehicle_time_laws.specs.Seen.{SeenBus, SeenBuses, frames_at, longest_bit, of_us, shortest_bit}
 use Rattle.j39_vehicle_time_laws.specs.VehicleAges.{IsPromptVehicle}
-use Rattle.j39_vehicle_time_laws.specs.YoungValues.{ComesDirectly, IsOnTheWay, KeepsItsPause, behind_it, by_itself, itself, sent_on}
+use Rattle.j39_vehicle_time_laws.specs.YoungValues.{KeepsItsPause}
 use Rattle.j39_vehicle_laws.specs.Faithful.{KeepsContents, PassesValues}
-use Rattle.j39_vehicle_time_laws.proofs.Feeders.{fed_by, goes_on_input}
+use Rattle.j39_vehicle_time_laws.proofs.Feeders.{fed_by}
 use Rattle.j39_vehicle_time_laws.proofs.OneFlow.{HasOwn, bound, its_stream, known_bus, placed}
 use Rattle.j39_vehicle_time_laws.proofs.Kept.{one_traffic}
 use Rattle.j39_vehicle_time_laws.proofs.LoneFlow.{Fits, KeepsItsPace, LoneFlow, bus_with, fits, lone_kept, none_kept}
+use Rattle.j39_vehicle_time_laws.proofs.TwoBuses.{at_x, at_y, both_buses, each_bus, in_both, seen_other, seen_x, seen_y}
 use Rattle.j39_vehicle_time_laws.proofs.Parts.{within_some}
-use Rattle.j39_vehicle_time_laws.proofs.TrueTimes.{agreed_time}
-
--- how long a bit of the bus is, by a clock that agrees with true time
-abbrev unit_at : Vehicle → ℕ → ℕ
-unit_at v b = option_map_or (λ (timing : Timing). of_us (bit_time timing.bitrate)) (timing_on v.buses.items b) million
-
-unit_small : (v : Vehicle) (b : ℕ) → unit_at v b ≤ 8000000
-unit_small v b = go (timing_on v.buses.items b)
-  where
-    by_rate : (bitrate : Bitrate) → of_us (bit_time bitrate) ≤ 8000000
-    by_rate Kbit125 = omega arith
-    by_rate Kbit250 = omega arith
-    by_rate Kbit500 = omega arith
-    by_rate Mbit1 = omega arith
-
-    go : (o : Option Timing) → option_map_or (λ (timing : Timing). of_us (bit_time timing.bitrate)) o million ≤ 8000000
-    go None = omega arith
-    go (Some timing) = by_rate timing.bitrate
-
-unit_some : (v : Vehicle) (b : ℕ) → 1000000 ≤ unit_at v b
-unit_some v b = go (timing_on v.buses.items b)
-  where
-    by_rate : (bitrate : Bitrate) → 1000000 ≤ of_us (bit_time bitrate)
-    by_rate Kbit125 = omega arith
-    by_rate Kbit250 = omega arith
-    by_rate Kbit500 = omega arith
-    by_rate Mbit1 = omega arith
-
-    go : (o : Option Timing) → 1000000 ≤ option_map_or (λ (timing : Timing). of_us (bit_time timing.bitrate)) o million
-    go None = omega arith
-    go (Some timing) = by_rate timing.bitrate
-
--- it is one that a bus with this timing can have
-unit_true : (v : Vehicle) (b : ℕ) (timing : Timing) → timing_on v.buses.items b ≡ Some timing → IsTrueTime timing (λ t. unit_at v b * t)
-unit_true v b timing timed =
-    let same : of_us (bit_time timing.bitrate) ≡ unit_at v b =
-    sym (ap (λ (o : Option Timing). option_map_or (λ (t : Timing). of_us (bit_time t.bitrate)) o million) timed) in
-    subst (λ (u : ℕ). IsTrueTime timing (λ t. u * t)) same (agreed_time timing)
-
--- ---- a copy carries all that it copies
-
-pub copies_carry : (v : Vehicle) → DoCopiesCarryValues v
-copies_carry v forward bytes copy =
-    let none : listed forward ≡ [] = ap (λ o. option_map_or (λ signals. signals.items) o []) copy in
-    record {
-      keeps = record {
-        copied = λ _. refl;
-        taken = λ k f t f_is t_is. absurd (none-some _ (sym (ap (λ l. slice_get l k) none) ∙ f_is));
-      };
-      passes = λ k f s t a f_is s_is t_is reads value. absurd (none-some _ (sym (ap (λ l. slice_get l k) none) ∙ f_is));
-    }
-
--- ---- times
-
--- a period in bits, of a clock that agrees with true time
-rate_step : (bitrate : Bitrate) (ms : ℕ) → of_us (bit_time bitrate) * (ms * bits_per_ms bitrate) ≡ 1000 * ms * million
-rate_step Kbit125 ms = omega arith
-rate_step Kbit250 ms = omega arith
-rate_step Kbit500 ms = omega arith
-rate_step Mbit1 ms = omega arith
-
-unit_step : (v : Vehicle) (b : ℕ) (timing : Timing) (ms : ℕ) → timing_on v.buses.items b ≡ Some timing
-    → unit_at v b * (ms * bits_per_ms timing.bitrate) ≡ 1000 * ms * million
-unit_step v b timing ms timed =
-    ap (λ (o : Option Timing). option_map_or (λ (t : Timing). of_us (bit_time t.bitrate)) o million * (ms * bits_per_ms timing.bitrate)) timed
-    ∙ rate_step timing.bitrate ms
-
--- a bit so many behind a step
-behind_step : (unit width step q late : ℕ) → unit * width ≡ step → unit * (q * width + late) ≡ q * step + unit * late
-behind_step unit width step q late same =
-    let parts : unit * (q * width + late) ≡ q * (unit * width) + unit * late = grind arith in
-    parts ∙ ap (λ (s : ℕ). q * s + unit * late) same
-
-at_step : (unit width step q : ℕ) → unit * width ≡ step → unit * (q * width) ≡ q * step
-at_step unit width step q same =
-    let parts : unit * (q * width) ≡ q * (unit * width) = grind arith in
-    parts ∙ ap (λ (s : ℕ). q * s) same
-
--- by a time there are no more steps than this, and what begins a few bits behind them is seen
-is_seen : (p by width late : ℕ) → p < suc by → late ≤ 8 → p * width + late < suc by * width + (by + 100)
-is_seen p by width late below few = let more : p * width ≤ suc by * width = mul-le-mul_right width (omega (arith, below)) in omega (arith, more, few)
-
--- no bits of a unit's clock are more than those of the bus's
-fewer_bits : (timing : Timing) (ms : ℕ) → bits_at_least timing ms ≤ ms * bits_per_ms timing.bitrate
-fewer_bits timing ms = elim (cases_lt (ms * bits_per_ms timing.bitrate) (bits_at_least timing ms)) [
-  | inr from ↦ from
-  | inl more ↦ absurd (
-      let low = div-mul-le_self (ms * bits_per_ms timing.bitrate * shortest_million timing) (longest_million timing) in
-      let times : suc (ms * bits_per_ms timing.bitrate) * longest_million timing ≤ bits_at_least timing ms * longest_million timing =
-      mul-le-mul_right (longest_million timing) more in
-      let less : ms * bits_per_ms timing.bitrate * shortest_million timing ≤ ms * bits_per_ms timing.bitrate * longest_million timing =
-      mul-le-mul_left (ms * bits_per_ms timing.bitrate) (let one = slower timing in let other = faster timing in omega (arith, one, other)) in
-      let some = some_fast timing in
-      omega (arith, low, times, less, some))
-]
-
--- the longer a step, the fewer there are
-few_steps : (t step : ℕ) → 1 ≤ step → t / step ≤ t
-few_steps t step some =
-    let low = div-mul-le_self t step in
-    let more : t / step * 1 ≤ t / step * step = mul-le-mul_left (t / step) some in
-    omega (arith, low, more)
+use Rattle.j39_vehicle_time_laws.proofs.LoneSteps.{at_step, behind_step, few_steps, fewer_bits, is_seen, unit_at, unit_small, unit_some, unit_step, unit_true}
+use Rattle.j39_vehicle_time_laws.proofs.LoneWay.{from_x, own_on_way, two_points, unasked_flow}
 
 module _ (v : Vehicle) (delays : Delays) (stated : AreDelays v delays) (n : ℕ) (forward : Forward) (x y : FlowAt) (within by : ℕ)
     (lone : IsLoneForward v delays n forward x y within) (paced : IsPacedFlow v x) (before bytes : List ℕ) (carries : CarriesValues v forward before bytes) where
@@ -266,52 +164,22 @@ module _ (v : Vehicle) (delays : Delays) (stated : AreDelays v delays) (n : ℕ)
   bus_none b = bus_with (lone_none b)
 
   abbrev seen : SeenBuses
-  seen b = if eqb b x.bus then bus_x else (if eqb b y.bus then bus_y else bus_none b)
-
-  seen_x : (b : ℕ) → eqb b x.bus ≡ true → seen b ≡ bus_x
-  seen_x b is = ap (λ (c : Bool). if c then bus_x else (if eqb b y.bus then bus_y else bus_none b)) is
-
-  seen_y : (b : ℕ) → eqb b x.bus ≡ false → eqb b y.bus ≡ true → seen b ≡ bus_y
-  seen_y b isnt is = ap (λ (c : Bool). if c then bus_x else (if eqb b y.bus then bus_y else bus_none b)) isnt
-      ∙ ap (λ (c : Bool). if c then bus_y else bus_none b) is
-
-  seen_none : (b : ℕ) → eqb b x.bus ≡ false → eqb b y.bus ≡ false → seen b ≡ bus_none b
-  seen_none b isnt neither = ap (λ (c : Bool). if c then bus_x else (if eqb b y.bus then bus_y else bus_none b)) isnt
-      ∙ ap (λ (c : Bool). if c then bus_y else bus_none b) neither
-
-  -- a statement on any bus holds where it does of these three
-  each_bus : (b : ℕ) (P : SeenBus → Type 0) → P bus_x → P bus_y → P (bus_none b) → P (seen b)
-  each_bus b P of_x of_y of_none = elim (cases_Bool (eqb b x.bus)) [
-    | inl is ↦ subst P (sym (seen_x b is)) of_x
-    | inr isnt ↦ elim (cases_Bool (eqb b y.bus)) [
-      | inl is ↦ subst P (sym (seen_y b isnt is)) of_y
-      | inr neither ↦ subst P (sym (seen_none b isnt neither)) of_none
-    ]
-  ]
-
-  at_x : seen x.bus ≡ bus_x
-  at_x = seen_x x.bus (eq-eqb x.bus x.bus refl)
-
-  at_y : seen y.bus ≡ bus_y
-  at_y = elim (cases_Bool (eqb y.bus x.bus)) [
-    | inl is ↦ absurd (lone.other_bus (sym (eqb-true y.bus x.bus is)))
-    | inr isnt ↦ seen_y y.bus isnt (eq-eqb y.bus y.bus refl)
-  ]
+  seen = both_buses x.bus y.bus bus_x bus_y bus_none
 
   -- there are frames of these two flows alone
   occupied : (z : FlowAt) (q : ℕ) → IsIts (frames_at v seen z) q → (z ≡ x) ⊎ (z ≡ y)
   occupied z q its = elim (cases_Bool (eqb z.bus x.bus)) [
     | inl is ↦
         let bus : z.bus ≡ x.bus = eqb-true z.bus x.bus is in
-        let flow : x.flow ≡ z.flow = subst (λ (s : SeenBus). s.of.source q ≡ z.flow) (seen_x z.bus is) its.2 in
+        let flow : x.flow ≡ z.flow = subst (λ (s : SeenBus). s.of.source q ≡ z.flow) (seen_x x.bus y.bus bus_x bus_y bus_none z.bus is) its.2 in
         inl (λ i. record { bus = bus i; flow = sym flow i })
     | inr isnt ↦ elim (cases_Bool (eqb z.bus y.bus)) [
       | inl is ↦
           let bus : z.bus ≡ y.bus = eqb-true z.bus y.bus is in
-          let flow : y.flow ≡ z.flow = subst (λ (s : SeenBus). s.of.source q ≡ z.flow) (seen_y z.bus isnt is) its.2 in
+          let flow : y.flow ≡ z.flow = subst (λ (s : SeenBus). s.of.source q ≡ z.flow) (seen_y x.bus y.bus bus_x bus_y bus_none z.bus isnt is) its.2 in
           inr (λ i. record { bus = bus i; flow = sym flow i })
       | inr neither ↦
-          let few : q < 0 = subst (λ (s : SeenBus). q < s.schedule.count) (seen_none z.bus isnt neither) its.0 in
+          let few : q < 0 = subst (λ (s : SeenBus). q < s.schedule.count) (seen_other x.bus y.bus bus_x bus_y bus_none z.bus isnt neither) its.0 in
           absurd (omega (arith, few))
     ]
   ]
@@ -366,7 +234,7 @@ module _ (v : Vehicle) (delays : Delays) (stated : AreDelays v delays) (n : ℕ)
   kept b timing of_bus inside = elim (cases_Bool (eqb b x.bus)) [
     | inl is ↦
         let same : b ≡ x.bus = eqb-true b x.bus is in
-        subst (λ (s : SeenBus). IsOtherwiseKept v delays b timing (frames_asked (asked_on of_bus)) (scope_on whole_vehicle b) s) (sym (seen_x b is))
+        subst (λ (s : SeenBus). IsOtherwiseKept v delays b timing (frames_asked (asked_on of_bus)) (scope_on whole_vehicle b) s) (sym (seen_x x.bus y.bus bus_x bus_y bus_none b is))
         (subst (λ (c : ℕ). (other : IsKnownBus v delays c timing) → IsOtherwiseKept v delays c timing (frames_asked (asked_on other)) (scope_on whole_vehicle c) bus_x) (sym same)
         (λ other. lone_kept timing lone_x some_x (unit_true v x.bus timing (timed_of x.bus timing other)) (frames_asked (asked_on other))
         (subst (λ (tr : Traffic). Fits tr x.flow ident_x)
@@ -375,14 +243,14 @@ module _ (v : Vehicle) (delays : Delays) (stated : AreDelays v delays) (n : ℕ)
     | inr isnt ↦ elim (cases_Bool (eqb b y.bus)) [
       | inl is ↦
           let same : b ≡ y.bus = eqb-true b y.bus is in
-          subst (λ (s : SeenBus). IsOtherwiseKept v delays b timing (frames_asked (asked_on of_bus)) (scope_on whole_vehicle b) s) (sym (seen_y b isnt is))
+          subst (λ (s : SeenBus). IsOtherwiseKept v delays b timing (frames_asked (asked_on of_bus)) (scope_on whole_vehicle b) s) (sym (seen_y x.bus y.bus bus_x bus_y bus_none b isnt is))
           (subst (λ (c : ℕ). (other : IsKnownBus v delays c timing) → IsOtherwiseKept v delays c timing (frames_asked (asked_on other)) (scope_on whole_vehicle c) bus_y) (sym same)
           (λ other. lone_kept timing lone_y some_y (unit_true v y.bus timing (timed_of y.bus timing other)) (frames_asked (asked_on other))
           (subst (λ (tr : Traffic). Fits tr y.flow ident_y)
           (one_traffic v delays y.bus lone.timed_y.0 timing (known_bus v delays stated y.bus lone.timed_y.0 lone.timed_y.1) other) fits_of_y)
           (lone.in_order y.bus timing other) v delays y.bus (scope_on whole_vehicle y.bus) (λ own. absurd (own is_sent_on))) of_bus)
       | inr neither ↦
-          subst (λ (s : SeenBus). IsOtherwiseKept v delays b timing (frames_asked (asked_on of_bus)) (scope_on whole_vehicle b) s) (sym (seen_none b isnt neither))
+          subst (λ (s : SeenBus). IsOtherwiseKept v delays b timing (frames_asked (asked_on of_bus)) (scope_on whole_vehicle b) s) (sym (seen_other x.bus y.bus bus_x bus_y bus_none b isnt neither))
           (none_kept v delays b timing (frames_asked (asked_on of_bus)) (scope_on whole_vehicle b) (lone_none b) refl (omega arith)
           (unit_true v b timing (timed_of b timing of_bus)))
     ]
@@ -392,12 +260,12 @@ module _ (v : Vehicle) (delays : Delays) (stated : AreDelays v delays) (n : ℕ)
 
   begun_x : HasBegun (frames_at v seen x) 0
   begun_x = subst (λ (s : SeenBus). ((0 < s.schedule.count) × (s.planned 0 ≡ true) × (s.of.source 0 ≡ x.flow))
-      × (s.schedule.start 0 < s.schedule.now)) (sym at_x)
+      × (s.schedule.start 0 < s.schedule.now)) (sym (at_x x.bus y.bus bus_x bus_y bus_none))
       ((omega arith, refl, refl), is_seen 0 by width_x 0 (omega arith) (omega arith))
 
   begun_y : HasBegun (frames_at v seen y) 0
   begun_y = subst (λ (s : SeenBus). ((0 < s.schedule.count) × (s.planned 0 ≡ true) × (s.of.source 0 ≡ y.flow))
-      × (s.schedule.start 0 < s.schedule.now)) (sym at_y)
+      × (s.schedule.start 0 < s.schedule.now)) (sym (at_y x.bus y.bus bus_x bus_y bus_none lone.other_bus))
       ((omega arith, refl, refl), is_seen 0 by width_y 8 (omega arith) (omega arith))
 
   within_some_ms : 1000 ≤ within
@@ -416,9 +284,6 @@ module _ (v : Vehicle) (delays : Delays) (stated : AreDelays v delays) (n : ℕ)
     release = s.release;
     born = s.release;
   }
-
-  in_both : (P : SeenBus → SeenBus → Type 0) → P bus_x bus_y → P (seen x.bus) (seen y.bus)
-  in_both P p = subst (λ (s : SeenBus). P s (seen y.bus)) (sym at_x) (subst (λ (s : SeenBus). P bus_x s) (sym at_y) p)
 
   -- each message is sent on 8 bits behind its release on the other bus, when it has ended
   ended_first : (q : ℕ) → unit_at v x.bus * (q * width_x + 0 + 1) ≤ unit_at v y.bus * (q * width_y + 8)
@@ -469,7 +334,7 @@ module _ (v : Vehicle) (delays : Delays) (stated : AreDelays v delays) (n : ℕ)
 
   sent_directly : IsSentDirectly v seen n x y within
   sent_directly =
-      let whole : AreHandedOn (seen x.bus) (seen y.bus) = in_both AreHandedOn handed_on in
+      let whole : AreHandedOn (seen x.bus) (seen y.bus) = in_both x.bus y.bus bus_x bus_y bus_none lone.other_bus AreHandedOn handed_on in
       record {
         handed = whole.handed;
         each = whole.each;
@@ -540,13 +405,13 @@ module _ (v : Vehicle) (delays : Delays) (stated : AreDelays v delays) (n : ℕ)
 
   -- a frame has its release at a bit, and says what is so then
   released : (b p : ℕ) → p < (seen b).schedule.count → (seen b).release p ≡ (seen b).time ((seen b).of.since p)
-  released b p = each_bus b (λ s. p < s.schedule.count → s.release p ≡ s.time (s.of.since p))
+  released b p = each_bus x.bus y.bus bus_x bus_y bus_none b (λ s. p < s.schedule.count → s.release p ≡ s.time (s.of.since p))
       (λ in_p. sym (at_step (unit_at v x.bus) width_x step p step_x)) (λ in_p. sym (at_step (unit_at v y.bus) width_y step p step_y))
       (λ in_p. absurd (omega (arith, in_p)))
 
   said : (b q : ℕ) (signal : Option ℕ) → q < (seen b).schedule.count → (time : ℕ) × ((seen b).born q signal ≡ Some time) × ((seen b).release q ≤ time)
       × (time ≤ (seen b).time ((seen b).schedule.queued q))
-  said b q signal = each_bus b (λ s. q < s.schedule.count → (time : ℕ) × (s.born q signal ≡ Some time) × (s.release q ≤ time)
+  said b q signal = each_bus x.bus y.bus bus_x bus_y bus_none b (λ s. q < s.schedule.count → (time : ℕ) × (s.born q signal ≡ Some time) × (s.release q ≤ time)
       × (time ≤ s.time (s.schedule.queued q)))
       (λ in_q. (q * step, refl, omega arith, let at = behind_step (unit_at v x.bus) width_x step q 0 step_x in omega (arith, at)))
       (λ in_q. (q * step, refl, omega arith, let at = behind_step (unit_at v y.bus) width_y step q 8 step_y in omega (arith, at)))
@@ -558,7 +423,7 @@ module _ (v : Vehicle) (delays : Delays) (stated : AreDelays v delays) (n : ℕ)
     closed = record { its_bus = λ at among. refl; sources = λ at from inside sent. refl };
     kept = kept;
     until = λ b timing inside timed.
-        each_bus b (λ s. by ≤ s.time s.schedule.now) (times_more (unit_at v x.bus) width_x (unit_some v x.bus)) (times_more (unit_at v y.bus) width_y (unit_some v y.bus))
+        each_bus x.bus y.bus bus_x bus_y bus_none b (λ s. by ≤ s.time s.schedule.now) (times_more (unit_at v x.bus) width_x (unit_some v x.bus)) (times_more (unit_at v y.bus) width_y (unit_some v y.bus))
         (times_by (unit_at v b) by (unit_some v b));
     prompt = prompt;
     own_releases = λ at inside own q its. released at.bus q its.0;
@@ -571,44 +436,6 @@ module _ (v : Vehicle) (delays : Delays) (stated : AreDelays v delays) (n : ℕ)
       times_more : (u width : ℕ) → 1000000 ≤ u → by ≤ u * (suc by * width + (by + 100))
       times_more u width some = let more = times_by u (suc by * width + (by + 100)) some in omega (arith, more)
 
-  -- ---- the way
-
-  -- on the way to such a point there are no others than this and the one of the input
-  two_points : (p : Point) (traced : IsTracedBy v n y p) {q : Point} → IsOnTheWay v p q → (q ≡ p) ⊎ (q ≡ traced.from)
-  two_points p traced itself = inl refl
-  two_points p traced (behind_it r q m way next on) = elim (two_points p traced way) [
-    | inl here ↦
-        let same : m ≡ n = same_Some _ _ (sym next ∙ (ap (next_forward v) here ∙ traced.next)) in
-        inr (same_Some _ _ (sym on ∙ (ap (λ (z : Point). goes_on v z m) here ∙ (ap (goes_on v p) same ∙ traced.on))))
-    | inr there ↦ absurd (none-some m (sym (ap (next_forward v) there ∙ traced.ends) ∙ next))
-  ]
-
-  from_x : (p : Point) (traced : IsTracedBy v n y p) → traced.from.at ≡ x
-  from_x p traced = same_Some _ _ (sym (goes_on_input v p traced.from n forward lone.sends.its traced.on) ∙ lone.sends.input)
-
-  -- what has releases of its own there is the flow of the input
-  comes_from : {at : FlowAt} → ComesDirectly v y at → (at ≡ y) ⊎ (at ≡ x)
-  comes_from by_itself = inl refl
-  comes_from (sent_on at z m comes fed input) = elim (comes_from comes) [
-    | inl here ↦
-        let one : m ≡ forward = same_Some _ _ (sym fed ∙ (ap (direct_feeder v) here ∙ lone.fed)) in
-        inr (same_Some _ _ (sym input ∙ (ap (first_input_at v) one ∙ lone.sends.input)))
-    | inr there ↦ absurd (none-some m (sym (ap (direct_feeder v) there ∙ lone.first) ∙ fed))
-  ]
-
-  own_of_x : {at : FlowAt} → ComesDirectly v x at → at ≡ x
-  own_of_x by_itself = refl
-  own_of_x (sent_on at z m comes fed input) = absurd (none-some m (sym (ap (direct_feeder v) (own_of_x comes) ∙ lone.first) ∙ fed))
-
-  own_on_way : (p q : Point) (at : FlowAt) → IsTracedBy v n y p → IsOnTheWay v p q → ComesDirectly v q.at at → direct_feeder v at ≡ None → at ≡ x
-  own_on_way p q at traced way comes unfed = elim (two_points p traced way) [
-    | inl here ↦ elim (comes_from (subst (λ (f : FlowAt). ComesDirectly v f at) (ap (λ (z : Point). z.at) here ∙ traced.of) comes)) [
-      | inl is ↦ absurd (none-some forward (sym unfed ∙ (ap (direct_feeder v) is ∙ lone.fed)))
-      | inr is ↦ is
-    ]
-    | inr there ↦ own_of_x (subst (λ (f : FlowAt). ComesDirectly v f at) (ap (λ (z : Point). z.at) there ∙ from_x p traced) comes)
-  ]
-
   -- a release comes at each step
   keeps_pause : KeepsItsPause v seen x 0 by
   keeps_pause pause known t from to =
@@ -617,7 +444,7 @@ module _ (v : Vehicle) (delays : Delays) (stated : AreDelays v delays) (n : ℕ)
       let (timing, timed, more) = and_then_some (λ (timing : Timing). option_map (λ (ms : ℕ). ms * longest_million timing) flow.pause)
       (timing_on v.buses.items x.bus) pause rest in
       let (ms, paused, made) = map_some (λ (ms : ℕ). ms * longest_million timing) flow.pause pause more in
-      let one : flow ≡ paced.flow = same_Some _ _ (sym (unasked_flow flow unasked) ∙ paced.its) in
+      let one : flow ≡ paced.flow = same_Some _ _ (sym (unasked_flow v x flow unasked) ∙ paced.its) in
       let longer = paced.longer ms (sym (ap (λ (f : FlowPlan). f.pause) one) ∙ paused) in
       let fast : paced.ms * million ≤ paced.ms * longest_million timing = mul-le-mul_left paced.ms (faster timing) in
       let most : paced.ms * longest_million timing ≤ ms * longest_million timing = mul-le-mul_right (longest_million timing) longer in
@@ -627,19 +454,8 @@ module _ (v : Vehicle) (delays : Delays) (stated : AreDelays v delays) (n : ℕ)
       let high : t < t / step * step + step = lt-div-mul-add {a = t} {b = step} some_step in
       let inside = few_steps t step some_step in
       subst (λ (s : SeenBus). (p : ℕ) × ((p < s.schedule.count) × (s.planned p ≡ true) × (s.of.source p ≡ x.flow)) × (s.release p ≤ t)
-      × (t < s.release p + 1000 * pause)) (sym at_x)
+      × (t < s.release p + 1000 * pause)) (sym (at_x x.bus y.bus bus_x bus_y bus_none))
       (t / step, (omega (arith, inside, to), refl, refl), low, omega (arith, high, few))
-    where
-      unasked_flow : (flow : FlowPlan) → unasked_at v x ≡ Some flow → flow_at v.buses.items x ≡ Some flow
-      unasked_flow flow is =
-          let (timing, timed, rest) = and_then_some (λ (timing : Timing). option_and_then (λ (f : FlowPlan). if f.on_request then None else Some f)
-          (flow_at v.buses.items x)) (timing_on v.buses.items x.bus) flow is in
-          let (one, its, here) = and_then_some (λ (f : FlowPlan). if f.on_request then None else Some f) (flow_at v.buses.items x) flow rest in
-          its ∙ unrequested one flow one.on_request here
-        where
-          unrequested : (one flow : FlowPlan) (b : Bool) → (if b then None else Some one) ≡ Some flow → Some one ≡ Some flow
-          unrequested one flow true is = absurd (none-some flow is)
-          unrequested one flow false is = is
 
   pub messages_sent_on : CanBeSentOn v delays n x y before bytes by
   messages_sent_on = record {
@@ -648,27 +464,27 @@ module _ (v : Vehicle) (delays : Delays) (stated : AreDelays v delays) (n : ℕ)
     whole = refl;
     message = 0;
     begun = begun_x;
-    heard = ap (λ (s : SeenBus). s.bytes 0) at_x;
+    heard = ap (λ (s : SeenBus). s.bytes 0) (at_x x.bus y.bus bus_x bus_y bus_none);
     next = 0;
     sent = begun_y;
-    says = ap (λ (s : SeenBus). s.bytes 0) at_y;
-    behind = in_both (λ A B. end_time (carrier_of A x) 0 ≤ queue_time (carrier_of B y) 0) (ended_first 0);
-    carries = ap (λ (s : SeenBus). s.carries n 0 0) at_y;
+    says = ap (λ (s : SeenBus). s.bytes 0) (at_y x.bus y.bus bus_x bus_y bus_none lone.other_bus);
+    behind = in_both x.bus y.bus bus_x bus_y bus_none lone.other_bus (λ A B. end_time (carrier_of A x) 0 ≤ queue_time (carrier_of B y) 0) (ended_first 0);
+    carries = ap (λ (s : SeenBus). s.carries n 0 0) (at_y x.bus y.bus bus_x bus_y bus_none lone.other_bus);
     pauses = λ p traced q way at comes unfed.
-        subst (λ (f : FlowAt). KeepsItsPause v seen f 0 by) (sym (own_on_way p q at traced way comes unfed)) keeps_pause;
+        subst (λ (f : FlowAt). KeepsItsPause v seen f 0 by) (sym (own_on_way v delays n forward x y within lone p q at traced way comes unfed)) keeps_pause;
     passes = λ p traced q r m other frame carried way next its on takes.
-        elim (two_points p traced way) [
+        elim (two_points v n y p traced way) [
           | inr there ↦ absurd (none-some m (sym (ap (next_forward v) there ∙ traced.ends) ∙ next))
           | inl here ↦
               let same : m ≡ n = same_Some _ _ (sym next ∙ (ap (next_forward v) here ∙ traced.next)) in
               let one : other ≡ forward = same_Some _ _ (sym its ∙ (ap (forward_at v) same ∙ lone.sends.its)) in
               let far : r ≡ traced.from = same_Some _ _ (sym on ∙ (ap (λ (z : Point). goes_on v z m) here ∙ (ap (goes_on v p) same ∙ traced.on))) in
               let of_x : (seen r.at.bus).bytes carried ≡ before =
-              ap (λ (z : Point). (seen z.at.bus).bytes carried) far ∙ (ap (λ (f : FlowAt). (seen f.bus).bytes carried) (from_x p traced)
-              ∙ ap (λ (s : SeenBus). s.bytes carried) at_x) in
+              ap (λ (z : Point). (seen z.at.bus).bytes carried) far ∙ (ap (λ (f : FlowAt). (seen f.bus).bytes carried) (from_x v delays n forward x y within lone p traced)
+              ∙ ap (λ (s : SeenBus). s.bytes carried) (at_x x.bus y.bus bus_x bus_y bus_none)) in
               let of_y : (seen q.at.bus).bytes frame ≡ bytes =
               ap (λ (z : Point). (seen z.at.bus).bytes frame) here ∙ (ap (λ (f : FlowAt). (seen f.bus).bytes frame) traced.of
-              ∙ ap (λ (s : SeenBus). s.bytes frame) at_y) in
+              ∙ ap (λ (s : SeenBus). s.bytes frame) (at_y x.bus y.bus bus_x bus_y bus_none lone.other_bus)) in
               subst (λ (f : Forward). PassesValues v f ((seen r.at.bus).bytes carried) ((seen q.at.bus).bytes frame)) (sym one)
               (subst (λ (l : List ℕ). PassesValues v forward l ((seen q.at.bus).bytes frame)) (sym of_x)
               (subst (λ (l : List ℕ). PassesValues v forward before l) (sym of_y) carries.passes))
