@@ -135,7 +135,7 @@ class Against(Compared):
     def test_messages_are_carried_whole_where_follow_reports_them(self) -> None:
         """In a log of random packets: what was announced soundly and isn't reported is told, and nothing else is."""
         chance = random.Random(1)
-        log = self.write("random.log", "".join(f"{random_packet(chance)}\n" for _ in range(10000)))
+        log = self.write("random.log", "".join(f"{random_packet(chance)}\n" for _ in range(16000)))
         for length in LENGTHS:
             plan = self.write("plan.toml", GROUP % length)
             reports = re.findall(r"^\d+ - group VI from \?@(\d) to (\S+) ", program.call(["follow", plan, log])[1], re.MULTILINE)

@@ -111,7 +111,7 @@ class Premises(InFolder):
         span = within / 1e6
         found = self.told(("1.0", before), (f"{1 + span:.6f}", before), ("9.0", ET1))
         said = f"2 frames that no flow has came within {within / 1000:g} ms, in which they may all go before flow 1, ET1 from ENGINE to all"
-        self.assertIn(f"L:2: {said}: `unplanned` is 1", found)
+        self.assertIn(f"L:2: {said}: `unplanned` is 1; 2 of them from TOOL", found)
         self.assertNotIn(said, "".join(self.told(("1.0", before), (f"{1 + span + 0.000001:.6f}", before), ("9.0", ET1))))
         self.assertNotIn("frames that no flow has", "".join(self.told(("1.0", STRANGE), ("1.0001", STRANGE), ("9.0", ET1))))
 

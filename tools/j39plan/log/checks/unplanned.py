@@ -94,6 +94,13 @@ class Most(NamedTuple):
     share: int
 
 
+def is_within(bound: Bound, other: Bound) -> bool:
+    """Whether what counts for a flow counts for another one too; of two that are alike for the first one."""
+    if (bound.within, bound.identifier) == (other.within, other.identifier):
+        return other.number < bound.number
+    return bound.within <= other.within and bound.identifier <= other.identifier
+
+
 class Unplanned:
     """Frames that no flow has, by their times and identifiers."""
 
@@ -109,6 +116,8 @@ class Unplanned:
         self._frames = 0  # how many came in all
         self._dues = [0] * len(bounds)  # with which one more than the most may have come of each flow
         self._due: float = 0 if bounds and tables.timing else math.inf  # and of any
+        self._is_below = [any(is_within(bound, other) for other in bounds) for bound in bounds]
+        self._left = list(range(len(bounds)))  # the flows of which more are looked for
         self._last = 0
 
     def came(self, line: int, at: int | None, identifier: int) -> None:
@@ -135,17 +144,20 @@ class Unplanned:
             sources.clear()
 
     def _count(self, line: int, at: int) -> None:
-        """How many came within the bound of each flow of which it may be more than the most so far: each frame adds one at most."""
-        dues, mosts, frames = self._dues, self._mosts, self._frames
-        for place, (number, within, _) in enumerate(self._bounds):
+        """How many came within the bound of each flow of which it may be more than the most so far: each frame adds one at most. Of a flow whose frames all count
+        for another one too, it is only asked whether there are too many."""
+        dues, mosts, frames, bounds = self._dues, self._mosts, self._frames, self._bounds
+        for place in self._left:
             if dues[place] > frames:
                 continue
+            number, within, _ = bounds[place]
             times, sources = self._below[place]
-            count = len(times) - bisect_left(times, at - within)
+            count = len(times) - bisect_left(times, at - within, max(len(times) - mosts[place] - 1, 0))
             if count > mosts[place]:
                 mosts[place], self._most[number] = count, Most(count, line, at, *Counter(sources[-count:]).most_common(1)[0])
             dues[place] = frames + mosts[place] + 1 - count
-        self._due = min(dues)
+        self._left = [place for place in self._left if not self._is_below[place] or bounds[place].number not in self._most]
+        self._due = min(dues[place] for place in self._left)
         for times, sources in self._came:
             if len(times) > KEPT:
                 first = bisect_left(times, at - self._longest)
@@ -155,8 +167,9 @@ class Unplanned:
         """Tells of the flow that most may go before, and who sends most of them, by the units' addresses."""
         if not self._most or self._timing is None:
             return
-        number, most = max(self._most.items(), key=lambda told: (told[1].frames, -told[0]))
-        flow, within = self._flows[number - 1], next(bound.within for bound in self._bounds if bound.number == number)
+        bound = max((bound for bound in self._bounds if bound.number in self._most),
+                    key=lambda bound: (self._most[bound.number].frames, bound.within, bound.identifier, -bound.number))
+        number, within, most, flow = bound.number, bound.within, self._most[bound.number], self._flows[bound.number - 1]
         which = f"flow {number}, {flow.group} from {flow.sender} to {flow.to}"
         who, is_one = units.get(most.source), 2 * most.share > most.frames
         others = f"; {most.share} of them from {who or f'address {most.source}'}" if is_one else ""
