@@ -29,7 +29,7 @@ from j39plan.vehicle.files import Vehicle, is_vehicle
 from j39plan.vehicle.page import vehicle_page
 
 
-class Told(NamedTuple):
+class PlanFacts(NamedTuple):
     """What the program tells of a plan that can be read: its text and tables, its findings, where its units stand, and its load."""
 
     source: Source
@@ -39,14 +39,14 @@ class Told(NamedTuple):
     load: Load | None
 
 
-def told_of(plan: str) -> Told:
+def told_of(plan: str) -> PlanFacts:
     """What the program tells of a plan's file."""
     answer = program.checked(plan)
     source = source_in(plan)
     _, addresses = program.call(["addresses", "--", plan])
     load = load_of(program.call(["load", "--", plan])[1])
     tables = source.tables if source["choice"] else Tables.of(plan)
-    return Told(source, tables, list(findings(source, answer)), stands(addresses), load)
+    return PlanFacts(source, tables, list(findings(source, answer)), stands(addresses), load)
 
 
 def page_of(plan: str, title: str, origin: Origin, variant: list[str] | None = None) -> str:
@@ -134,7 +134,7 @@ def main(words: list[str] | None = None) -> int:
     program.variant_option(parser)
     given = parser.parse_args(words)
     if given.watch:
-        watched = page_server.Watched(given.plan, lambda: drawn(given.plan, given.variant, given.date), lambda: plans_beside(given.plan))
+        watched = page_server.WatchedFile(given.plan, lambda: drawn(given.plan, given.variant, given.date), lambda: plans_beside(given.plan))
         page_server.serve(watched, given.address or "127.0.0.1", given.port or 0)
     elif given.address is not None or given.port is not None:
         parser.error("--address and --port go with --watch")

@@ -34,7 +34,7 @@ class Sheet(NamedTuple):
     rows: list[tuple[Cell, ...]]
 
 
-class Answers(NamedTuple):
+class PlanAnswer(NamedTuple):
     """What the program answers of a plan: who stays at its address, and what `load` says, None where it says nothing."""
 
     stands: dict[str, Stand]
@@ -44,7 +44,7 @@ class Answers(NamedTuple):
 class Sheets:
     """The tables of a plan, with what the program answers of them, the comments behind labels, and the lines of the file."""
 
-    def __init__(self, source: Source, tables: Tables, answers: Answers) -> None:
+    def __init__(self, source: Source, tables: Tables, answers: PlanAnswer) -> None:
         self._source, self._tables, self._answers = source, tables, answers
         self._groups = {group.label: group for group in tables.groups}
         load = answers.load
