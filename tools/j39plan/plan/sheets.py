@@ -8,7 +8,7 @@ from fractions import Fraction
 from typing import NamedTuple
 
 from j39plan.j1939 import NAME_FIELDS
-from j39plan.plan.answers import Load, Stand
+from j39plan.plan.answers import PlanAnswer
 from j39plan.plan.measures import measure_of
 from j39plan.plan.parts import Source
 from j39plan.plan.schema import arrays
@@ -32,13 +32,6 @@ class Sheet(NamedTuple):
     name: str
     heads: tuple[str, ...]
     rows: list[tuple[Cell, ...]]
-
-
-class PlanAnswer(NamedTuple):
-    """What the program answers of a plan: who stays at its address, and what `load` says, None where it says nothing."""
-
-    stands: dict[str, Stand]
-    load: Load | None
 
 
 class Sheets:

@@ -13,7 +13,7 @@ from collections.abc import Iterable, Iterator
 from typing import Any, NamedTuple
 
 from j39plan import program
-from j39plan.left_out import LeftOut, Notes, plain
+from j39plan.left_out import LeftOut, plain
 
 # The kinds of sheets by their endings.
 KINDS = ("csv", "xlsx", "ods")
@@ -206,8 +206,3 @@ def rows_of(kind: str, data: bytes, encoding: str | None) -> list[SheetRow]:
     found = list(few(csv_rows(data, encoding) if kind == "csv" else xlsx_rows(data) if kind == "xlsx" else ods_rows(data)))
     names = dict.fromkeys(row.sheet for row in found)
     return found if len(names) > 1 else [row._replace(sheet="") for row in found]
-
-
-def say_left_out(notes: Notes, row: SheetRow, column: str, why: str) -> None:
-    """Says what of a row can't be read."""
-    notes.say(f"{row.at}, column {column}", why)
