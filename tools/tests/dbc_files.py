@@ -6,6 +6,14 @@ from typing import Any
 from j39plan import program
 from tests.support import InFolder, run
 
+# Two nodes of which one has an address, and identifiers of EEC1 (PGN 61444) from the addresses 0 and 15.
+NODES = 'BU_: ENGINE RETARDER\nBA_DEF_ BU_ "NmStationAddress" INT 0 254;\nBA_ "NmStationAddress" BU_ RETARDER 15;\n\n'
+
+FROM_0, FROM_15 = 0x0CF00400, 0x0CF0040F
+
+# A multiplexor, a signal that each message has, one of the messages of 1, one of those of 2 and 3, and one that another one selects.
+AXLE, STATE = 'AXLE M : 0|4@1+ (1,0) [0|0] "" RETARDER', 'STATE : 4|2@1+ (1,0) [0|0] "" RETARDER'
+
 DBC = '''VERSION ""
 NS_ :
 BS_:

@@ -10,13 +10,12 @@ from collections.abc import Sequence
 from typing import Any
 
 from j39plan import program
-from tests.dbc_files import DBC, WithDbc, message
+from tests.dbc_files import DBC, NODES, WithDbc, message
 from tests.support import TOOLS, example, needs, run, text_of
 
 SUPPLIERS = [example(f"suppliers/{name}.dbc") for name in ("engine", "gearbox", "brakes", "cab")]
 ENGINE, GEARBOX, BRAKES, CAB = SUPPLIERS
 
-NODES = 'BU_: ENGINE RETARDER\nBA_DEF_ BU_ "NmStationAddress" INT 0 254;\nBA_ "NmStationAddress" BU_ RETARDER 15;\n\n'
 EEC1, EEC1_AT_15 = 0x0CF00400, 0x0CF0040F
 TIMES = "".join(f'BA_DEF_ BO_ "{name}" INT 0 65535;\n' for name in ("GenMsgCycleTime", "GenMsgCycleTimeFast", "GenMsgDelayTime")) + (
     'BA_DEF_ BO_ "GenMsgSendType" ENUM "cyclic","cyclicAndSpontaneous","CyclicIfActive","OnRequest","NoMsgSendType";\n')

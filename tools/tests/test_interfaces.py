@@ -10,7 +10,7 @@ import unittest
 
 from j39plan.log.curves import Timeline, curves_of
 from j39plan.log.files import LINE_MOST, Log, interface_of
-from j39plan.log.readings import Choice, Wanted
+from j39plan.log.readings import Choice, ReadingChoice
 from j39plan.log.reports import Counts, follow, tables_of
 from tests.support import TOOLS, InFolder, example, run, there
 
@@ -69,7 +69,7 @@ class OneOfSeveral(InFolder):
         tables, counts = tables_of(PLAN), Counts()
         timeline = Timeline(tables.units)
         with Log([self.log], "can1") as log:
-            wanted = Wanted(Choice(tables, ["SPN110", "SPN190"]), lambda _, label, reading: (label, reading))
+            wanted = ReadingChoice(Choice(tables, ["SPN110", "SPN190"]), lambda _, label, reading: (label, reading))
             curves = curves_of(timeline.passed(follow(PLAN, log, tables, counts)), wanted, timeline.clock)
         self.assertEqual({curve.signal: (list(curve.times), list(curve.values)) for curve in curves},
                          {"SPN190": ([1.1], [1600.0]), "SPN110": ([1.4, 1.5], [87.0, 85.0])})

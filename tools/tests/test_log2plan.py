@@ -8,9 +8,9 @@ from collections import Counter
 
 from j39plan import program
 from j39plan.log.clock import MILLISECOND
-from j39plan.log.to_plan.measures import Sent
+from j39plan.log.to_plan.measures import FlowMeasures
 from j39plan.log.to_plan.selectors import Selector, selector_of
-from j39plan.log.to_plan.survey import Seen
+from j39plan.log.to_plan.survey import Traffic
 from j39plan.log.to_plan.times import rounded, times_of
 from j39plan.plan.tables import Flow, Tables
 from tests import harvest
@@ -134,9 +134,9 @@ class Groups(FromLogs):
 
 
 class Times(unittest.TestCase):
-    def sent(self, *distances: float) -> Sent:
+    def sent(self, *distances: float) -> FlowMeasures:
         """A flow whose messages came so far apart, in ms."""
-        sent = Sent(len(distances) + 1, 0, 0, 0)
+        sent = FlowMeasures(len(distances) + 1, 0, 0, 0)
         sent.keep(0, True)
         for distance in distances:
             sent.take(round(distance * MILLISECOND))
@@ -203,9 +203,9 @@ class Requests(FromLogs):
 
 
 class Selectors(unittest.TestCase):
-    def seen(self, *moments: tuple[float, int]) -> Seen:
+    def seen(self, *moments: tuple[float, int]) -> Traffic:
         """What came on a way: when, in ms, and with which first byte."""
-        seen = Seen()
+        seen = Traffic()
         for at, first in moments:
             seen.take((first, 8, 6), f"({at / 1000 + 10:.6f})")
         return seen

@@ -103,6 +103,13 @@ class Built(InFolder):
         if shutil.which("gcc"):
             self.assertEqual(lines_of("j39plan-where", f"{examples}/first_plan.toml", env={**environment, program.SWITCH: "1"}),
                              ["ok 2 units 1 groups 1 flows"])
+        self.assertIn("load 32160 of 250000", lines_of("j39plan", "load", f"{examples}/axle.toml", env=environment))
+        self.tools_work(examples, environment)
+        self.does_the_jobs_of_the_page(environment)
+        self.has_what_systems_look_for(prefix)
+
+    def tools_work(self, examples: str, environment: dict[str, str]) -> None:
+        """Starts tools with examples."""
         self.assertEqual(lines_of("j39plan-startup", f"{examples}/first_plan.toml", env=environment)[1:],
                          ["up ENGINE", "up CLUSTER", "give CLUSTER ENGINE"])
         self.assertIn("--strict", " ".join(lines_of("j39plan-dbc2plan", "--help", env=environment)))
@@ -121,14 +128,15 @@ class Built(InFolder):
         followed = f"{examples}/two_units_one_address"
         self.assertEqual(lines_of("j39plan-fleet", f"{followed}.toml", f"{followed}.drive.log", env=environment)[-1],
                          "logs 1 with deviations 0 failed 0")
-        self.assertIn("load 32160 of 250000", lines_of("j39plan", "load", f"{examples}/axle.toml", env=environment))
+
+    def has_what_systems_look_for(self, prefix: str) -> None:
+        """Man pages, completions, parts for editors and schemas."""
         for tool in ("", *(f"-{tool}" for tool in INSTALLED)):
             self.assertTrue(os.path.exists(f"{prefix}/share/man/man1/j39plan{tool}.1.gz"), tool)
             self.assertTrue(os.path.exists(f"{prefix}/share/bash-completion/completions/j39plan{tool}"), tool)
             self.assertTrue(os.path.exists(f"{prefix}/share/fish/vendor_completions.d/j39plan{tool}.fish"), tool)
         for name in ("neovim.lua", "emacs.el", "helix.toml", "vscode/[Content_Types].xml", "vscode/extension/extension.js"):
             self.assertTrue(os.path.exists(f"{prefix}/share/j39plan/editors/{name}"), name)
-        self.does_the_jobs_of_the_page(environment)
         for schema in ("plan", "vehicle"):
             self.assertIn(f"/usr/share/j39plan/tools/{schema}.schema.json", PAGE)
             self.assertTrue(os.path.exists(f"{prefix}/share/j39plan/tools/{schema}.schema.json"))

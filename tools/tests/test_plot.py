@@ -13,9 +13,9 @@ from typing import Any
 
 from j39plan import program
 from j39plan.log.clock import ends_of
-from j39plan.log.curves import Held, Timeline, curves_of
+from j39plan.log.curves import AddressSpan, Timeline, curves_of
 from j39plan.log.files import Log
-from j39plan.log.readings import Choice, Wanted
+from j39plan.log.readings import Choice, ReadingChoice
 from j39plan.log.reports import Counts, follow, tables_of
 from tests.support import TOOLS, InFolder, example, needs, run, signal
 
@@ -42,7 +42,7 @@ class Told(WithLog):
         tables = tables_of(PLAN)
         timeline = Timeline(tables.units)
         with Log([log]) as file:
-            wanted = Wanted(Choice(tables, names), lambda _, label, reading: (label, reading))
+            wanted = ReadingChoice(Choice(tables, names), lambda _, label, reading: (label, reading))
             curves = curves_of(timeline.passed(follow(PLAN, file, tables, Counts())), wanted, timeline.clock)
         return {(curve.group, curve.signal, curve.sender): curve for curve in curves}, timeline.held()
 
@@ -59,10 +59,10 @@ class Told(WithLog):
     def test_who_held_which_address(self) -> None:
         _, held = self.told(self.log)
         self.assertEqual([part for part in held if part.address in (0, 128, 129)], [
-            Held(0, "ENGINE", 100.0, 110.0, True), Held(128, "SPRAYER", 100.0, 105.0, False),
-            Held(128, "#0000000012345678", 105.0, 110.0, True), Held(129, "SPRAYER", 105.5, 107.0, True),
+            AddressSpan(0, "ENGINE", 100.0, 110.0, True), AddressSpan(128, "SPRAYER", 100.0, 105.0, False),
+            AddressSpan(128, "#0000000012345678", 105.0, 110.0, True), AddressSpan(129, "SPRAYER", 105.5, 107.0, True),
         ])
-        self.assertEqual([part for part in held if part.address == 3], [Held(3, "TRANSMISSION", 100.0, 110.0, False)])
+        self.assertEqual([part for part in held if part.address == 3], [AddressSpan(3, "TRANSMISSION", 100.0, 110.0, False)])
 
     def test_claims_of_what_is_held(self) -> None:
         """Each is told with its time: of a unit that restarts, or is asked."""
@@ -84,7 +84,7 @@ class Told(WithLog):
         log = self.write("jump.log", "".join(f"{line}\n" for line in lines))
         curves, held = self.told(log, "SPN110")
         self.assertEqual(list(curves["ET1", "SPN110", "ENGINE?"].times), [12.0, 13.0, 13.0, 14.5, 16.5])
-        self.assertIn(Held(128, "#0000000012345678", 14.5, 16.5, True), held)
+        self.assertIn(AddressSpan(128, "#0000000012345678", 14.5, 16.5, True), held)
         if importlib.util.find_spec("matplotlib"):
             said = f"plot: {log}:3: time jumps by 20419.3 days; times go back or jump 2 times in all\n"
             self.assertEqual(run("plot.py", PLAN, log, "SPN110", "-o", self.path("a.svg")), (0, "", said))
@@ -95,7 +95,7 @@ class Told(WithLog):
         tables = tables_of(PLAN)
         timeline = Timeline(tables.units)
         with Log([first, second]) as log:
-            wanted = Wanted(Choice(tables, ["SPN110"]), lambda _, label, reading: (label, reading))
+            wanted = ReadingChoice(Choice(tables, ["SPN110"]), lambda _, label, reading: (label, reading))
             curves = curves_of(timeline.passed(follow(PLAN, log, tables, Counts())), wanted, timeline.clock)
             self.assertEqual(ends_of(log), (100_000_000_000, 110_000_000_000))
             self.assertEqual([log.place(line) for line in (1, 4, 5, 11)], [(first, 1), (first, 4), (second, 1), (second, 7)])
@@ -230,9 +230,9 @@ class Drawn(WithLog):
     def test_claims_narrower_than_a_column_are_one_box(self) -> None:
         from j39plan.log.chart import merged
 
-        fight = [Held(128, ("PUMP", "#0000000000000003")[number % 2], 5 + number / 100, 5 + (number + 1) / 100, True) for number in range(500)]
-        held = [Held(128, "PUMP", 0.0, 5.0, True), *fight, Held(128, "PUMP", 10.0, 20.0, True), Held(129, "PUMP", 0.0, 0.01, True)]
-        self.assertEqual(merged(held, 0.05), [(held[0], 1), (Held(128, "PUMP", 5.0, 10.0, True), 500), (held[-2], 1), (held[-1], 1)])
+        fight = [AddressSpan(128, ("PUMP", "#0000000000000003")[number % 2], 5 + number / 100, 5 + (number + 1) / 100, True) for number in range(500)]
+        held = [AddressSpan(128, "PUMP", 0.0, 5.0, True), *fight, AddressSpan(128, "PUMP", 10.0, 20.0, True), AddressSpan(129, "PUMP", 0.0, 0.01, True)]
+        self.assertEqual(merged(held, 0.05), [(held[0], 1), (AddressSpan(128, "PUMP", 5.0, 10.0, True), 500), (held[-2], 1), (held[-1], 1)])
         self.assertEqual(merged(held, 0.001), [(part, 1) for part in held])
 
     def test_an_address_fight_is_drawn(self) -> None:

@@ -3,7 +3,7 @@
 import unittest
 
 from j39plan import program
-from j39plan.plan.answer_places import Placed, placed
+from j39plan.plan.answer_places import PlacedPart, placed
 from tests.support import InFolder, example, run, text_of
 
 PLAN = """version = 4
@@ -175,7 +175,7 @@ FOUND = (
 
 
 class Slips(InFolder):
-    def told(self, text: str) -> list[Placed]:
+    def told(self, text: str) -> list[PlacedPart]:
         """What `check` answers of a plan, each part with its line and a hint."""
         name = self.write("plan.toml", text)
         return list(placed(text.encode(), program.call(["check", name])[1]))

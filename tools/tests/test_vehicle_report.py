@@ -166,7 +166,7 @@ class Watched(OfVehicles):
     def test_it_is_drawn_anew_as_a_plan_is_saved(self) -> None:
         """Or the vehicle's file, or a plan that this names now; else not."""
         name = self.vehicle()
-        drawn = page_server.Drawn(page_server.Watched(name, lambda: report.drawn(name), lambda: report.plans_beside(name)))
+        drawn = page_server.ServedPage(page_server.WatchedFile(name, lambda: report.drawn(name), lambda: report.plans_beside(name)))
         drawn.look()
         first = drawn.number
         drawn.look()

@@ -7,7 +7,7 @@ from j39plan.plan.answer_grammar import Unknown, lines_of
 from j39plan.plan.parts import Source
 from j39plan.vehicle.answer_grammar import FINDINGS, answer_of, line_of
 from j39plan.vehicle.files import Vehicle, is_vehicle, plan_file
-from j39plan.vehicle.tables import Bus, Carried, Forward, Gateway, Need, OnBus, VehicleTables
+from j39plan.vehicle.tables import Bus, SignalForward, Forward, Gateway, Need, OnBus, VehicleTables
 from tests.support import examples, text_of, vehicles
 from tests.vehicles import ANSWER, B, P, SIGNAL, V, OfVehicles
 
@@ -28,7 +28,7 @@ class Tables(OfVehicles):
         """Without signals it copies, with an empty list it doesn't; a signal goes into the one of its label where none is named."""
         text = V.replace("within = 5\n", "signal = [{ label = 'A' }, { label = 'B', as = 'X', exact = false }]\n", 1)
         forward, = VehicleTables(Source(text)).forwards
-        self.assertEqual((forward.signals, forward.copies, forward.within), ([Carried("A", "A", True), Carried("B", "X", False)], False, None))
+        self.assertEqual((forward.signals, forward.copies, forward.within), ([SignalForward("A", "A", True), SignalForward("B", "X", False)], False, None))
         tables = SIGNAL.format("A", "A") + SIGNAL.format("B", "X") + "exact = false\n"
         self.assertEqual(forward, VehicleTables(Source(V.replace("within = 5\n", tables, 1))).forwards[0])
         empty, = VehicleTables(Source(V.replace("within = 5\n", "signal = []\n", 1))).forwards

@@ -243,8 +243,7 @@ class Forwards(OfVehicles):
 
 
 class Refusals(OfVehicles):
-    def test_each(self) -> None:
-        text = "[[group.text]]\nlabel = 'T'\nbyte = 1\nbytes = 2\n"
+    def test_texts_keys_and_values(self) -> None:
         units = ", ".join(f'"P.U{number}"' for number in range(129))
         for line, said, v, b in (
             (3, 'Text  (label = P: a text needs quotes: "P")', swapped(V, ('label = "P"', "label = P")), B),
@@ -267,6 +266,12 @@ class Refusals(OfVehicles):
             (21, "Repeated forward 1 signal 2 key as  (key as: another signal goes into X at line 16)",
              more(SIGNAL.format("A", "X") + SIGNAL.format("B", "X")), B),
             (16, 'Range forward 1 key mode  (mode = "peridic": "direct" or "periodic"; did you mean periodic?)', more('mode = "peridic"\n'), B),
+        ):
+            self.assertEqual(self.where(self.vehicle(v, b=b)), (2, [f"v.toml:{line}: refused {said}"]))
+
+    def test_labels(self) -> None:
+        text = "[[group.text]]\nlabel = 'T'\nbyte = 1\nbytes = 2\n"
+        for line, said, v, b in (
             (12, "UnknownLabel forward 1 key gateway  (key gateway: no gateway is called X)", swapped(V, ('gateway = "CGW"', 'gateway = "X"')), B),
             (13, "UnknownLabel forward 1 key group  (key group: no bus is called Q)", swapped(V, ('"P.EEC1"', '"Q.EEC1"')), B),
             (13, "UnknownLabel forward 1 key group  (key group: CGW has no unit on bus P)", swapped(V, ('"P.G", ', "")), B),

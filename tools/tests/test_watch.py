@@ -201,7 +201,7 @@ class InChromium(Watched):
         """Chromium asks for the page a second time once the file is saved, and runs no other script than the page's own."""
         plan = self.write("plan.toml", FIRST)
         asked = []
-        drawn = page_server.Drawn(page_server.Watched(plan, lambda: report.drawn(plan)))
+        drawn = page_server.ServedPage(page_server.WatchedFile(plan, lambda: report.drawn(plan)))
         drawn.look()
 
         class Counting(page_server.Handler):

@@ -25,7 +25,7 @@ Ends = tuple[int, int]
 
 
 @dataclass
-class Sending:
+class OneReceiverSession:
     """A message that is sent to one receiver: its group, its packets, the next one and the last one that is cleared, and until when an answer is
     waited for."""
 
@@ -75,10 +75,10 @@ class Tally:
 
 
 @dataclass
-class Broadcasts:
+class BroadcastQueue:
     """Messages of one unit to all, one after another."""
 
-    waiting: deque[Sending] = field(default_factory=deque)
+    waiting: deque[OneReceiverSession] = field(default_factory=deque)
     is_busy: bool = False
 
 
@@ -87,9 +87,9 @@ class Transport:
 
     def __init__(self, agenda: Agenda, put: Callable[[int, bytes], None], priority: int, gap: float, window_of: Callable[[int], int | None]) -> None:
         self._agenda, self._put, self._priority, self._gap, self._window_of = agenda, put, priority, gap, window_of
-        self._sending: dict[Ends, Sending] = {}
+        self._sending: dict[Ends, OneReceiverSession] = {}
         self._receiving: dict[Ends, Receiving] = {}
-        self._broadcasts: dict[int, Broadcasts] = {}
+        self._broadcasts: dict[int, BroadcastQueue] = {}
         self.spared: frozenset[int] = frozenset()  # addresses with which no unit here begins a session, or takes one up: somebody else does
         self.tally = Tally()
 
@@ -99,12 +99,12 @@ class Transport:
 
     def broadcast(self, source: int, pgn: int, data: bytes, done: Callable[[bool], None]) -> None:
         """A unit sends a message to all, as soon as those before it are sent."""
-        queue = self._broadcasts.setdefault(source, Broadcasts())
-        queue.waiting.append(Sending(pgn, data, done))
+        queue = self._broadcasts.setdefault(source, BroadcastQueue())
+        queue.waiting.append(OneReceiverSession(pgn, data, done))
         if not queue.is_busy:
             self._next_broadcast(source, queue)
 
-    def _next_broadcast(self, source: int, queue: Broadcasts) -> None:
+    def _next_broadcast(self, source: int, queue: BroadcastQueue) -> None:
         """The next message of a unit to all is announced, if there is one."""
         queue.is_busy = bool(queue.waiting) and self._broadcasts.get(source) is queue
         if queue.is_busy:
@@ -113,7 +113,7 @@ class Transport:
             one.done(True)
             self._agenda.after(self._gap + MORE, self._broadcast_packet, source, queue, one)
 
-    def _broadcast_packet(self, source: int, queue: Broadcasts, one: Sending) -> None:
+    def _broadcast_packet(self, source: int, queue: BroadcastQueue, one: OneReceiverSession) -> None:
         """A packet of a message to all, unless its unit has left its address."""
         if self._broadcasts.get(source) is not queue:
             return
@@ -144,17 +144,17 @@ class Transport:
         """A unit asks to send a message to one receiver; not while it has another one for this, or that is spared."""
         if (source, to) in self._sending or to in self.spared:
             return False
-        one = self._sending[source, to] = Sending(pgn, data, done)
+        one = self._sending[source, to] = OneReceiverSession(pgn, data, done)
         self._manage(source, to, bytes((RTS, *one.about)), pgn)
         self._wait(one, (source, to), WAITS_CLEAR)
         return True
 
-    def _wait(self, one: Sending, ends: Ends, time: float) -> None:
+    def _wait(self, one: OneReceiverSession, ends: Ends, time: float) -> None:
         """An answer is waited for so long."""
         one.until = self._agenda.now + time
         self._agenda.at(one.until, self._late, ends, one)
 
-    def _late(self, ends: Ends, one: Sending) -> None:
+    def _late(self, ends: Ends, one: OneReceiverSession) -> None:
         """No answer came, unless more is waited for since then."""
         if self._sending.get(ends) is one and one.until and self._agenda.now >= one.until:
             self._abort(ends[0], ends[1], TIMEOUT, one.pgn)
@@ -188,7 +188,7 @@ class Transport:
                 del self._receiving[source, to]
                 self.tally.given_up += 1
 
-    def _cleared(self, ends: Ends, one: Sending, count: int, first: int) -> None:
+    def _cleared(self, ends: Ends, one: OneReceiverSession, count: int, first: int) -> None:
         """Packets are cleared to be sent; none: the receiver holds the connection."""
         if count == 0:
             self._wait(one, ends, WAITS_HELD)
@@ -198,7 +198,7 @@ class Transport:
         one.until, one.next, one.last = 0.0, first, min(first + count - 1, one.count)
         self._agenda.after(PROMPT, self._packet, ends, one, first)
 
-    def _packet(self, ends: Ends, one: Sending, number: int) -> None:
+    def _packet(self, ends: Ends, one: OneReceiverSession, number: int) -> None:
         """A packet of a message to one receiver, if no other one was asked for meanwhile."""
         if self._sending.get(ends) is not one or number != one.next:
             return

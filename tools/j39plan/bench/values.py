@@ -22,7 +22,7 @@ class Wrong(Exception):
     """What is asked of a signal can't be."""
 
 
-class Recorded(NamedTuple):
+class Recording(NamedTuple):
     """The messages of a group by a unit in a log: when each came, in seconds, and its bytes."""
 
     times: list[float]
@@ -66,7 +66,7 @@ class Values:
     def __init__(self, tables: Tables) -> None:
         self._groups = {group.label: group for group in tables.groups}
         self._courses: dict[str, list[tuple[Signal, Course]]] = {}
-        self._recorded: dict[Way, Recorded] = {}
+        self._recorded: dict[Way, Recording] = {}
 
     def signal(self, name: str) -> tuple[str, Signal]:
         """The signal of a name GROUP.SIGNAL, or SIGNAL where one group alone has it, with its group's label."""
@@ -131,7 +131,7 @@ class Values:
 
     def record(self, way: Way, time: float, data: bytes) -> None:
         """A message of a log, so many seconds after its begin."""
-        recorded = self._recorded.setdefault(way, Recorded([], []))
+        recorded = self._recorded.setdefault(way, Recording([], []))
         recorded.times.append(time)
         recorded.data.append(data)
 

@@ -48,7 +48,7 @@ class Stamps:
         return self._last
 
 
-class Noted(NamedTuple):
+class WireFrame(NamedTuple):
     """A frame on the bus: when it ended, in seconds, its identifier and data, whether it was sent here, and its line in the log."""
 
     at: float
@@ -70,7 +70,7 @@ class Wire:
         self._log: TextIO | None = self._stack.enter_context(open(log, "w", encoding="ascii")) if log else None
         self._offset = time.time() - time.monotonic()
         self._last = self._flushed = 0.0
-        self._is_noting, self._stamps, self._own = is_noting, Stamps(), deque[Noted]()
+        self._is_noting, self._stamps, self._own = is_noting, Stamps(), deque[WireFrame]()
         is_asked = is_noting and interface in ASKED
         self._echoes: deque[tuple[float, int, bytes]] | None = deque() if interface in ECHOING or is_asked else None
         self.sent = self.heard = self.lost = self.lines = self.errors = self.others = self._untaken = 0
@@ -133,12 +133,12 @@ class Wire:
         elif self._echoes is None:
             self._own.append(self._noted(message, self._stamps.at(0.0, self.now), True))
 
-    def _noted(self, message: Any, at: float, is_own: bool) -> Noted:
+    def _noted(self, message: Any, at: float, is_own: bool) -> WireFrame:
         """A frame on the bus, once it is in the log."""
         self._write(message, at + self._offset)
-        return Noted(at, message.arbitration_id, bytes(message.data), is_own, self.lines)
+        return WireFrame(at, message.arbitration_id, bytes(message.data), is_own, self.lines)
 
-    def notes(self, until: float) -> Noted | None:
+    def notes(self, until: float) -> WireFrame | None:
         """The next frame with a 29-bit identifier, those that were sent here too; None where none came until a time. Error frames and others are counted."""
         if self._own:
             return self._own.popleft()

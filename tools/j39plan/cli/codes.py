@@ -35,7 +35,7 @@ HEADS = ("log", "line", "unit", "state", "spn", "fmi", "raw", "name", "came", "w
          "cleared_line")
 
 
-class Drive(NamedTuple):
+class DriveCodes(NamedTuple):
     """The codes of a drive, its name, its logs, and its first and last time."""
 
     name: str
@@ -53,7 +53,7 @@ def shown(reports: Iterable[Report], progress: Progress) -> Iterator[Report]:
         yield report
 
 
-def drive_of(plan: str, tables: Tables, names: list[str], interface: str | None, progress: Progress) -> Drive:
+def drive_of(plan: str, tables: Tables, names: list[str], interface: str | None, progress: Progress) -> DriveCodes:
     """The codes of a drive of several logs."""
     choice, counts, clock = Choice(tables, [group.label for group in groups_of(tables)]), Counts(), Clock()
     with Log(names, interface) as log, by_kind(plan, tables, log.still, interface) as (known, other, numbers):
@@ -69,7 +69,7 @@ def drive_of(plan: str, tables: Tables, names: list[str], interface: str | None,
     counts.refuse_without_frames(log)
     counts.say(log)
     clock.say(log)
-    return Drive(os.path.basename(names[0]), log, episodes, first, last)
+    return DriveCodes(os.path.basename(names[0]), log, episodes, first, last)
 
 
 def spelled(moment: Moment) -> str:
@@ -90,7 +90,7 @@ def end_in_words(episode: Episode, log: Log) -> str:
     return {"gone": "gone", "silent": f"{episode.group} stops", "open": "till the end"}[episode.end]
 
 
-def text_of(drive: Drive) -> Iterator[str]:
+def text_of(drive: DriveCodes) -> Iterator[str]:
     """The codes as a table."""
     rows = ((drive.log.place(one.came.line)[1], one.unit, one.code, one.state, spelled(one.came), spelled(one.went),
              "..".join(map(str, dict.fromkeys(one.counts))), " ".join(sorted(one.lamps)) or "-", end_in_words(one, drive.log)) for one in drive.episodes)
@@ -98,7 +98,7 @@ def text_of(drive: Drive) -> Iterator[str]:
     yield f"codes {len(drive.episodes)}"
 
 
-def object_of(drive: Drive, episode: Episode) -> dict[str, Any]:
+def object_of(drive: DriveCodes, episode: Episode) -> dict[str, Any]:
     """A code as JSON has it: times in seconds, without what there isn't."""
     spn, fmi, raw = episode.key
     name, line = drive.log.place(episode.came.line)
@@ -115,7 +115,7 @@ def seconds(moment: Moment) -> float | None:
     return None if moment.time is None else moment.time / SECOND
 
 
-def put_csv(drives: Iterable[Drive]) -> None:
+def put_csv(drives: Iterable[DriveCodes]) -> None:
     """The codes of drives as rows."""
     rows = csv.DictWriter(sys.stdout, HEADS, lineterminator="\n")
     rows.writeheader()
@@ -124,7 +124,7 @@ def put_csv(drives: Iterable[Drive]) -> None:
             rows.writerow({**object_of(drive, episode), "lamps": " ".join(sorted(episode.lamps))})
 
 
-def fleet_lines(drives: list[Drive]) -> Iterator[str]:
+def fleet_lines(drives: list[DriveCodes]) -> Iterator[str]:
     """Which codes came in how many vehicles, the commonest first."""
     found: dict[tuple[str, str, str], dict[str, int]] = {}
     for drive in drives:
@@ -162,7 +162,7 @@ def refuse_unless_possible(given: argparse.Namespace, tables: Tables) -> None:
         raise program.Refused(program.MISSING, "matplotlib isn't there: apt-get install python3-matplotlib")
 
 
-def draw(drive: Drive, output: str) -> None:
+def draw(drive: DriveCodes, output: str) -> None:
     """Draws the codes of a drive."""
     from j39plan.log import code_chart
 

@@ -12,18 +12,18 @@ from typing import Any
 
 from j39plan import program
 from j39plan.plan.breaks import Break, Breaks
-from j39plan.plan.differences import Answers, Change, Matched, changes_of
+from j39plan.plan.differences import AnswerLines, Change, PlanPair, changes_of
 from j39plan.plan.files import of_one_vehicle, sources_of
 from j39plan.plan.line_breaks import LineBreak, breaks_of
-from j39plan.plan.line_pairs import Counts, LinePair, Vehicle
+from j39plan.plan.line_pairs import VehicleCounts, LinePair, VehiclePair
 from j39plan.plan.parts import Source
 from j39plan.plan.variants import Line
 
 
-def answers_of(source: Source) -> Answers:
+def answers_of(source: Source) -> AnswerLines:
     """What the program answers about a plan, from a file of its own: what a pipe gives comes only once."""
     with program.file_of(source.text) as plan:
-        return Answers(source, plan)
+        return AnswerLines(source, plan)
 
 
 def change_line(change: Change, old: Source, new: Source) -> str:
@@ -70,24 +70,24 @@ def broken_words(found: Break, who: str) -> str:
     }[found.kind]
 
 
-def others_of(matched: Matched, sender: str, pair: LinePair | None) -> int:
+def others_of(matched: PlanPair, sender: str, pair: LinePair | None) -> int:
     """How many units both plans have beside a sender, of lines those that are in a vehicle with it."""
     labels = [before.label for before, now in matched.units if before is not None and now is not None and before.label != sender]
     return sum(pair is None or pair.are_together(sender, label) for label in labels)
 
 
-def vehicle_lines(counts: Counts, vehicles: list[Vehicle]) -> Iterator[str]:
+def vehicle_lines(counts: VehicleCounts, vehicles: list[VehiclePair]) -> Iterator[str]:
     """How many vehicles two lines have, and in how many of both was looked for what breaks."""
     yield f"vehicles {counts.new}, it was {counts.old}; compared {len(vehicles)}"
     for word, number, first in (("no longer", counts.gone, counts.gone_first), ("newly", counts.built, counts.built_first)):
         yield f"{word} built {number}" + (f", as {' '.join(first)}" if number else "")
 
 
-class Compared:
+class Comparison:
     """Two plans of one vehicle, or two of lines of vehicles, compared."""
 
     def __init__(self, old: Source, new: Source) -> None:
-        self.matched = Matched(old, new)
+        self.matched = PlanPair(old, new)
         answers = answers_of(old), answers_of(new)
         self.changes = list(changes_of(self.matched, *answers))
         self.pair = LinePair(Line.of(old), Line.of(new)) if old["choice"] and new["choice"] else None
@@ -133,7 +133,7 @@ def main(words: list[str] | None = None) -> int:
         old, new = map(of_one_vehicle, (old, new))
     if old.text == new.text:
         program.say(f"{new.name}: the same plan as {old.name}")
-    compared = Compared(old, new)
+    compared = Comparison(old, new)
     if given.json:
         json.dump(compared.object(), sys.stdout, indent=1)
         print()

@@ -13,8 +13,8 @@ from collections.abc import Iterable, Iterator
 from j39plan import program
 from j39plan.log.clock import SECOND, nanoseconds
 from j39plan.log.cutting.clocks import Shift, in_ms, lines_of, shift_of, shifted
-from j39plan.log.cutting.merging import Merged
-from j39plan.log.cutting.selection import Chosen, Selection, Window, around
+from j39plan.log.cutting.merging import MergedLogs
+from j39plan.log.cutting.selection import Chosen, Selection, TimeSpan, around
 from j39plan.log.files import Log, interface_option
 from j39plan.log.reports import Counts
 from j39plan.log.to_plan.draft import NOTHING, all_of
@@ -64,7 +64,7 @@ def words_of(words: list[str] | None) -> argparse.Namespace:
     return parser.parse_args(words)
 
 
-def window_of(given: argparse.Namespace) -> Window:
+def window_of(given: argparse.Namespace) -> TimeSpan:
     """The time that is asked for."""
     if given.around is not None:
         with Log(given.logs) as log:
@@ -77,7 +77,7 @@ def window_of(given: argparse.Namespace) -> Window:
     if len({is_relative for _, is_relative in ends}) > 1:
         raise program.Refused(program.UNREADABLE, "--begin and --end: both count from the log's begin, or none")
     begin, end = (None if end is None else end[0] for end in (given.begin, given.end))
-    return Window(begin, end, any(is_relative for _, is_relative in ends))
+    return TimeSpan(begin, end, any(is_relative for _, is_relative in ends))
 
 
 @contextlib.contextmanager
@@ -113,7 +113,7 @@ def is_name(text: str) -> bool:
     return len(text) == 16 and all(digit in "0123456789abcdefABCDEF" for digit in text)
 
 
-def selected(given: argparse.Namespace, log: Log, window: Window) -> Iterator[bytes]:
+def selected(given: argparse.Namespace, log: Log, window: TimeSpan) -> Iterator[bytes]:
     """The lines of units and groups that are asked for."""
     with plan_of(given.plan, given.variant) as (plan, tables):
         selection, counts = Selection(tables, chosen_of(given, tables)), Counts()
@@ -121,7 +121,7 @@ def selected(given: argparse.Namespace, log: Log, window: Window) -> Iterator[by
         counts.refuse_without_frames(log)
 
 
-def in_time(log: Log, window: Window) -> Iterator[bytes]:
+def in_time(log: Log, window: TimeSpan) -> Iterator[bytes]:
     """The lines of a time."""
     for line in lines_of(log):
         if window.has(nanoseconds((line.split(maxsplit=1) or [b""])[0].decode("ascii", "replace"))):
@@ -173,7 +173,7 @@ def written(lines: Iterable[bytes], shift: Shift | None) -> int:
 
 def merged(given: argparse.Namespace, shift: Shift) -> tuple[int, int]:
     """Writes both logs as one; how many lines, and how many of these both have."""
-    merging = Merged(shift.spread)
+    merging = MergedLogs(shift.spread)
     with Log([given.clock]) as first, Log(given.logs) as second:
         count = written(merging.lines(lines_of(first), (shifted(line, shift) for line in lines_of(second))), None)
     return count, merging.both

@@ -15,7 +15,7 @@ from typing import TYPE_CHECKING
 from j39plan import program
 from j39plan.dbc import merge
 from j39plan.dbc.addresses import addresses_of
-from j39plan.dbc.reader import KINDS, Form
+from j39plan.dbc.reader import KINDS, FileOptions
 from j39plan.dbc.senders import give_senders
 from j39plan.dbc.to_plan import Conversion
 from j39plan.j1939 import NULL_ADDRESS
@@ -29,7 +29,7 @@ from j39plan.sheet.files import KINDS as SHEETS
 if TYPE_CHECKING:
     import canmatrix
 
-    from j39plan.dbc.merge import Sent
+    from j39plan.dbc.merge import BusFrame
 
 
 def is_called(frame: canmatrix.Frame, group: str) -> bool:
@@ -37,7 +37,7 @@ def is_called(frame: canmatrix.Frame, group: str) -> bool:
     return group == frame.name or frame.arbitration_id.extended and group == str(frame.arbitration_id.pgn)
 
 
-def chosen(sent: list[Sent], senders: list[str], groups: list[str]) -> list[Sent]:
+def chosen(sent: list[BusFrame], senders: list[str], groups: list[str]) -> list[BusFrame]:
     """The frames that were asked for."""
     for sender in senders:
         if not any(sender in one.frame.transmitters for one in sent):
@@ -57,8 +57,8 @@ def chosen(sent: list[Sent], senders: list[str], groups: list[str]) -> list[Sent
 
 def plan_of(given: argparse.Namespace, notes: Notes) -> Conversion:
     """The plan that can be made of the files."""
-    known = merge.Known(dict(given.same), dict(given.address))
-    form = Form(given.bus, given.kind, given.encoding, mapping_of(given.columns))
+    known = merge.NodeFacts(dict(given.same), dict(given.address))
+    form = FileOptions(given.bus, given.kind, given.encoding, mapping_of(given.columns))
     network = merge.load(given.files, form, notes, given.version, known)
     network.make_units()
     unsaid = Unsaid()
@@ -133,7 +133,7 @@ def options(words: list[str] | None) -> argparse.Namespace:
     return given
 
 
-def of_tables(given: argparse.Namespace, tables: own.Plan, notes: Notes) -> tuple[str, str]:
+def of_tables(given: argparse.Namespace, tables: own.OwnPlan, notes: Notes) -> tuple[str, str]:
     """How many of what a plan has that was written as tables, and its text."""
     if len(given.files) > 1:
         raise program.Refused(program.UNREADABLE, f"{', '.join(map(plain, given.files))}: one of them {str(tables).removeprefix('it ')}: join plans by join")
@@ -154,8 +154,8 @@ def made(given: argparse.Namespace, notes: Notes) -> tuple[str, str]:
     names = ", ".join(map(plain, given.files))
     try:
         plan = plan_of(given, notes)
-    except merge.Fault as fault:
-        if isinstance(fault.__cause__, own.Plan):
+    except merge.FileFault as fault:
+        if isinstance(fault.__cause__, own.OwnPlan):
             return of_tables(given, fault.__cause__, notes)
         raise program.Refused(program.UNREADABLE, str(fault)) from fault
     except LeftOut as why:

@@ -141,7 +141,7 @@ def input_copied(logs: list[str]) -> Iterator[str]:
         yield copy
 
 
-class Gathered(NamedTuple):
+class FleetTables(NamedTuple):
     """The tables of logs; of how many of how many there are tables, whether no interrupt came before the end, and the exit status."""
 
     fleet: Fleet
@@ -151,7 +151,7 @@ class Gathered(NamedTuple):
     status: int
 
 
-def compared(given: argparse.Namespace) -> Gathered:
+def compared(given: argparse.Namespace) -> FleetTables:
     """The logs of a plan, as they were compared with it."""
     options = [word for key in ("jitter", "silence", "interface") for value in [getattr(given, key)] if value is not None for word in (f"--{key}", value)]
     options += expected.words_of(given)
@@ -160,10 +160,10 @@ def compared(given: argparse.Namespace) -> Gathered:
         tasks: list[Task] = [(*plan, log, copy if log == program.INPUT else os.path.abspath(log), options) for log in largest_first(logs)]
         found, is_whole = gathered(team(given.processes, given.scheduler)(tasks), len(tasks))
     status = max((drive["status"] for drive in found.values() if drive["failed"]), default=int(any(drive["deviations"] for drive in found.values())))
-    return Gathered(Fleet(Tables.shown(plan[1]), [found[log] for log in logs if log in found]), len(found), len(logs), is_whole, status)
+    return FleetTables(Fleet(Tables.shown(plan[1]), [found[log] for log in logs if log in found]), len(found), len(logs), is_whole, status)
 
 
-def end_if_interrupted(whole: Gathered) -> None:
+def end_if_interrupted(whole: FleetTables) -> None:
     """Ends as an interrupt ends a tool, if one came."""
     if not whole.is_whole:
         program.say(f"interrupted: {whole.done} of {whole.logs} logs are done, and in the table")

@@ -14,7 +14,7 @@ from j39plan.plan.files import text_of
 from j39plan.plan.parts import Source
 from j39plan.plan.tables import Group, Tables
 from j39plan.plan.text import as_label
-from j39plan.vehicle.forwarding import End, Forwarding, Wish
+from j39plan.vehicle.forwarding import GatewayEnd, Forwarding, Wish
 
 # A bus and the file of its plan.
 PLAN = re.compile(r"(?:([A-Za-z0-9_]{1,32})=)?(.+)", re.DOTALL)
@@ -61,14 +61,14 @@ def words_of(words: list[str] | None) -> argparse.Namespace:
     return parser.parse_args(words)
 
 
-def end_of(plan: tuple[str, str], gateway: str, named: str | None, option: str) -> End:
+def end_of(plan: tuple[str, str], gateway: str, named: str | None, option: str) -> GatewayEnd:
     """A bus with the gateway's unit there."""
     bus, file = plan
     tables = Source(text_of(file), file).tables
     unit = named or gateway
     if unit not in [other.label for other in tables.units]:
         raise program.Refused(program.UNREADABLE, f"{file}: no unit is called {unit}" + ("" if named else f": name the one of the gateway by {option}"))
-    return End(bus, tables, unit, named is not None and named != gateway)
+    return GatewayEnd(bus, tables, unit, named is not None and named != gateway)
 
 
 def groups_of(tables: Tables, file: str, names: list[str]) -> list[Group]:

@@ -12,7 +12,7 @@ from typing import Any
 from j39plan import program
 from j39plan.mend.attempts import Mend
 from j39plan.mend.judge import Judge
-from j39plan.mend.search import Mended, Tried, difference, mended
+from j39plan.mend.search import MendedPlan, FindingMends, difference, mended
 from j39plan.mend.slack import Slack, slack_lines, slack_object, slack_of
 from j39plan.plan.files import text_of
 from j39plan.progress import Progress
@@ -34,7 +34,7 @@ def mend_line(word: str, mend: Mend) -> str:
     return f"  {word}: {mend.where}: {mend.what}" + (f"  ({mend.note})" if mend.note else "")
 
 
-def lines_of(name: str, tried: Tried) -> Iterator[str]:
+def lines_of(name: str, tried: FindingMends) -> Iterator[str]:
     """A finding with what was tried."""
     yield f"{name}:{tried.line}: {tried.text}" + (f"  ({tried.hint})" if tried.hint else "")
     yield from (f"  {word}: {what}" for word, what in tried.left if word == "ask first")
@@ -59,14 +59,14 @@ def mend_object(mend: Mend) -> dict[str, Any]:
             "edits": edits}
 
 
-def tried_object(tried: Tried) -> dict[str, Any]:
+def tried_object(tried: FindingMends) -> dict[str, Any]:
     """A finding with what was tried, as JSON has it."""
     found = {"text": tried.text, "line": tried.line, "hint": tried.hint, "mends": [mend_object(mend) for mend in tried.mends],
              "in_vain": tried.in_vain, "gone_with": tried.by, **{word.replace(" ", "_"): what for word, what in tried.left}}
     return {key: value for key, value in found.items() if value != ""}
 
 
-def written(given: argparse.Namespace, before: str, found: Mended, slack: Slack | None) -> None:
+def written(given: argparse.Namespace, before: str, found: MendedPlan, slack: Slack | None) -> None:
     """Writes what was found."""
     shown = difference(given.plan, before, found.text)
     if given.json:

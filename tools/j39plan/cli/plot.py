@@ -14,7 +14,7 @@ from j39plan import program
 from j39plan.log.clock import counted, ends_of
 from j39plan.log.curves import Curve, Timeline, curves_of
 from j39plan.log.files import Log, drive_words, interface_option
-from j39plan.log.readings import Choice, Column, Wanted, parted
+from j39plan.log.readings import Choice, Column, ReadingChoice, parted
 from j39plan.log.reports import Counts, follow, tables_of
 from j39plan.log.serial_numbers import by_kind, say_numbers
 from j39plan.plan.cut import cut
@@ -31,7 +31,7 @@ MOST = 24
 def drawn(log: Log, plan: str, tables: Tables, choice: Choice) -> tuple[dict[Column, list[Curve]], Timeline]:
     """The curves of each chosen signal, those of each sender apart, and what tells who held which address."""
     counts, timeline = Counts(), Timeline(tables.units)
-    wanted = Wanted(choice, lambda _, label, reading: (label, reading))
+    wanted = ReadingChoice(choice, lambda _, label, reading: (label, reading))
     curves = curves_of(timeline.passed(follow(plan, log, tables, counts)), wanted, timeline.clock)
     counts.refuse_without_frames(log)
     counts.say(log)
@@ -120,7 +120,7 @@ def main(words: list[str] | None = None) -> int:
     if window.begin >= window.end and (given.begin is not None or given.end is not None):
         raise program.Refused(program.UNREADABLE, "nothing to draw: --from is not before --to, or the log has nothing there")
     axis = counted(first if timeline.clock.has_times else None)
-    signals = {column: chart.Drawn(unit, curves.get(column, []), names_of(tables, column)) for column, unit in columns.items()}
+    signals = {column: chart.SignalPlot(unit, curves.get(column, []), names_of(tables, column)) for column, unit in columns.items()}
     chart.save(chart.figure_of(signals, held, title, axis, window), given.output)
     for group, signal in choice.columns:
         if (group, signal) not in curves:

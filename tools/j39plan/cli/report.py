@@ -9,12 +9,11 @@ import argparse
 import os
 import re
 import sys
-from typing import NamedTuple
 
 from j39plan import program
 from j39plan.left_out import plain
 from j39plan.plan import page_server
-from j39plan.plan.answers import Finding, Load, Stand, findings, load_of, stands
+from j39plan.plan.answers import PlanAnswer, findings
 from j39plan.plan.diagram import of_line
 from j39plan.plan.files import one_variant, opened, text_of
 from j39plan.plan.page import page, sections_of
@@ -29,24 +28,10 @@ from j39plan.vehicle.files import Vehicle, is_vehicle
 from j39plan.vehicle.page import vehicle_page
 
 
-class Told(NamedTuple):
-    """What the program tells of a plan that can be read: its text and tables, its findings, where its units stand, and its load."""
-
-    source: Source
-    tables: Tables
-    found: list[Finding]
-    stands: dict[str, Stand]
-    load: Load | None
-
-
-def told_of(plan: str) -> Told:
-    """What the program tells of a plan's file."""
-    answer = program.checked(plan)
-    source = source_in(plan)
-    _, addresses = program.call(["addresses", "--", plan])
-    load = load_of(program.call(["load", "--", plan])[1])
-    tables = source.tables if source["choice"] else Tables.of(plan)
-    return Told(source, tables, list(findings(source, answer)), stands(addresses), load)
+def read(plan: str) -> tuple[Source, Tables, PlanAnswer]:
+    """The text and the tables of a plan's file, and what the program answers of it."""
+    checked, source = program.checked(plan), source_in(plan)
+    return source, source.tables if source["choice"] else Tables.of(plan), PlanAnswer.of(plan, list(findings(source, checked)))
 
 
 def page_of(plan: str, title: str, origin: Origin, variant: list[str] | None = None) -> str:
@@ -54,11 +39,11 @@ def page_of(plan: str, title: str, origin: Origin, variant: list[str] | None = N
     footer, line = origin.footer([(os.path.basename(title), bytes_of(plan))]), Line.of(source_in(plan))
     if variant is None:
         choices = choice_section(line, None) if line.choices else ""
-        return page(title, *told_of(plan), footer, f"a line of {of_line(line).count()} vehicles" if choices else "", choices)
+        return page(title, *read(plan), footer, f"a line of {of_line(line).count()} vehicles" if choices else "", choices)
     with one_variant(plan, variant) as one:
         taken = line.first(set(variant)) or set()
         labels = ", ".join(label for choice in line.choices for label in choice if label in taken)
-        return page(title, *told_of(one), footer, labels, choice_section(line, taken))
+        return page(title, *read(one), footer, labels, choice_section(line, taken))
 
 
 def page_of_vehicle(name: str, file: str, data: bytes, origin: Origin) -> str:
@@ -67,7 +52,7 @@ def page_of_vehicle(name: str, file: str, data: bytes, origin: Origin) -> str:
     if status not in (0, 1):
         raise program.Refused(status, "\n".join(f"{part.file}:{part.part.line}: {part.part.text}" for part in parts if part.part.line is not None))
     vehicle = Vehicle(Source(data.decode(errors="replace")), file)
-    plans = {plan: sections_of(title_of(plan), *told_of(plan)) for plan in dict.fromkeys(map(vehicle.file_of, vehicle.tables.buses))}
+    plans = {plan: sections_of(title_of(plan), *read(plan)) for plan in dict.fromkeys(map(vehicle.file_of, vehicle.tables.buses))}
     files = [(os.path.basename(title_of(name)), data), *((bus.plan, bytes_of(vehicle.file_of(bus))) for bus in vehicle.tables.buses)]
     return vehicle_page(title_of(name), vehicle, parts, plans, origin.footer(dict(files).items()))
 
@@ -134,7 +119,7 @@ def main(words: list[str] | None = None) -> int:
     program.variant_option(parser)
     given = parser.parse_args(words)
     if given.watch:
-        watched = page_server.Watched(given.plan, lambda: drawn(given.plan, given.variant, given.date), lambda: plans_beside(given.plan))
+        watched = page_server.WatchedFile(given.plan, lambda: drawn(given.plan, given.variant, given.date), lambda: plans_beside(given.plan))
         page_server.serve(watched, given.address or "127.0.0.1", given.port or 0)
     elif given.address is not None or given.port is not None:
         parser.error("--address and --port go with --watch")

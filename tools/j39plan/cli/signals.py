@@ -21,7 +21,7 @@ from j39plan.j1939 import GLOBAL_ADDRESS
 from j39plan.log.clock import Clock
 from j39plan.log.data_frames import WRITERS, data_frame, ending_of
 from j39plan.log.files import Log, drive_words, interface_option
-from j39plan.log.readings import CODE, Choice, Column, Known, Made, Reading, Wanted, parted
+from j39plan.log.readings import CODE, Choice, Column, ReadingCache, Made, Reading, ReadingChoice, parted
 from j39plan.log.reports import Below, Counts, Who, below_of, lines_of, tables_of, who_of
 from j39plan.log.serial_numbers import by_kind, say_numbers
 from j39plan.plan.cut import cut
@@ -94,7 +94,7 @@ def name_members_of(label: str) -> str:
     return f'"signal": "{name}"' + (f', "record": {record[:-1]}' if record else "")
 
 
-class Form(Generic[Made]):
+class TableForm(Generic[Made]):
     """A form of a table: the heads of its columns, if it has any, and what it makes of a reading and of a message. Of several logs each row
     has the name of its own."""
 
@@ -127,7 +127,7 @@ class Form(Generic[Made]):
         raise NotImplementedError
 
 
-class Plain(Form[str]):
+class PlainTable(TableForm[str]):
     """A row a signal, with commas between its columns."""
 
     heads: Sequence[str] = HEADS
@@ -142,7 +142,7 @@ class Plain(Form[str]):
         return begin + rows if rows else ""
 
 
-class Lines(Plain):
+class JsonLines(PlainTable):
     """A JSON object a signal, each on a line."""
 
     heads = ()
@@ -215,7 +215,7 @@ def wide_heads_of(column: Column, choice: Choice) -> list[str]:
     return heads
 
 
-class Part(NamedTuple):
+class WidePart(NamedTuple):
     """The columns of a group in a row a message: commas for those before them, for each of its signals, and for those behind, which end the row."""
 
     before: str
@@ -223,7 +223,7 @@ class Part(NamedTuple):
     behind: str
 
 
-class Wide(Form[Cells]):
+class Wide(TableForm[Cells]):
     """A row a message, with two columns for each signal: its value, which is empty where it has none, and the word for what it has instead;
     and a third one for the names of its values, where the plan has some. What isn't a number anyway has one column, a text itself, and a
     code by its parts."""
@@ -238,11 +238,11 @@ class Wide(Form[Cells]):
             counts = groups.setdefault(column[0], [])
             self._places[column] = len(counts), len(own)
             counts.append(len(own))
-        self._repeated, self._parts = choice.repeated, dict[str, Part]()
+        self._repeated, self._parts = choice.repeated, dict[str, WidePart]()
         before, behind = 0, len(self.heads) - 7
         for group, counts in groups.items():
             behind -= sum(counts)
-            self._parts[group] = Part("," * before, ["," * count for count in counts], "," * behind + "\n")
+            self._parts[group] = WidePart("," * before, ["," * count for count in counts], "," * behind + "\n")
             before += sum(counts)
 
     def made(self, column: Column, label: str, reading: Reading) -> Cells:
@@ -264,13 +264,13 @@ class Wide(Form[Cells]):
 
 # What messages of one kind have alike, by their line without number, time and data: their group, how many lines are below those of so many bytes,
 # what is made of these, and who sends the messages to whom.
-Way = tuple[str, Below, Known[Made] | None, str]
+Way = tuple[str, Below, ReadingCache[Made] | None, str]
 
 
-class Table(Generic[Made]):
+class SignalTable(Generic[Made]):
     """Makes a table of what `follow` writes of a log."""
 
-    def __init__(self, tables: Tables, wanted: Wanted[Made], form: Form[Made], clock: Clock) -> None:
+    def __init__(self, tables: Tables, wanted: ReadingChoice[Made], form: TableForm[Made], clock: Clock) -> None:
         self._below, self._wanted, self._form, self._clock = below_of(tables), wanted, form, clock
         self._ways: dict[str, Way[Made]] = {}
 
@@ -326,12 +326,12 @@ def words_of(words: list[str] | None) -> argparse.Namespace:
     program.plan_word(parser)
     drive_words(parser, "NAME", "groups, signals, or GROUP.SIGNAL; all, if none is named")
     forms = parser.add_mutually_exclusive_group()
-    forms.add_argument("--csv", dest="form", action="store_const", const=Plain, help="a row a signal (the default)")
-    forms.add_argument("--json", dest="form", action="store_const", const=Lines, help="a JSON object a signal, each on a line")
+    forms.add_argument("--csv", dest="form", action="store_const", const=PlainTable, help="a row a signal (the default)")
+    forms.add_argument("--json", dest="form", action="store_const", const=JsonLines, help="a JSON object a signal, each on a line")
     forms.add_argument("--wide", dest="form", action="store_const", const=Wide, help="a row a message, two columns a signal, three where its values have names")
     forms.add_argument("-o", "--output", metavar="FILE", help="as a file whose name ends in .parquet (a row a signal) or .mf4 (the values alone)")
     interface_option(parser)
-    parser.set_defaults(form=Plain)
+    parser.set_defaults(form=PlainTable)
     return parser.parse_intermixed_args(words)
 
 
@@ -367,8 +367,8 @@ def main(words: list[str] | None = None) -> int:
         choice = Choice(tables, names)
         with Log(logs, given.interface) as log, by_kind(plan, tables, log.still, given.interface) as (known, other, numbers), \
                 cut(known, other, choice) as (shorter, parts):
-            form: Form[Any] = given.form(log, choice)
-            table = Table(parts, Wanted(choice, form.made), form, clock)
+            form: TableForm[Any] = given.form(log, choice)
+            table = SignalTable(parts, ReadingChoice(choice, form.made), form, clock)
             put_all(form.head(), table.rows(lines_of(shorter, log, counts), log, counts), log.is_live)
     say_numbers(numbers)
     counts.say(log)

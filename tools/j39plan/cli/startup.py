@@ -41,7 +41,7 @@ def frames_of(lines: list[str]) -> list[Frame]:
     return [(line[:8], line[9:]) for line in lines if "#" in line]
 
 
-class Unit:
+class StartedUnit:
     """A unit that is on: what it has claimed, and what it has heard of others."""
 
     def __init__(self, frame: Frame, is_upward: bool, kept: frozenset[int]) -> None:
@@ -75,15 +75,15 @@ def claim_of(frame: Frame) -> tuple[int, int]:
     return int.from_bytes(bytes.fromhex(payload), "little"), int(identifier[-2:], 16)
 
 
-def units_on(plan: str, order: list[str]) -> dict[str, Unit | None]:
+def units_on(plan: str, order: list[str]) -> dict[str, StartedUnit | None]:
     """The units, once they are switched on in an order; None of those that never claim, and so answer nothing."""
     source = source_in(plan)
     units, kept = {unit.label: unit for unit in source.tables.units}, frozenset(source.kept)
     frames = iter(frames_of(program.run(plan, [f"up {label}" for label in order])))
-    return {label: Unit(next(frames), units[label].chooser == "upward", kept) if units[label].claims else None for label in order}
+    return {label: StartedUnit(next(frames), units[label].chooser == "upward", kept) if units[label].claims else None for label in order}
 
 
-def start_up(units: dict[str, Unit | None], schedule: Schedule) -> None:
+def start_up(units: dict[str, StartedUnit | None], schedule: Schedule) -> None:
     """Adds the steps by which the units, each switched on in this order, hear every claim and answer it."""
     order = list(units)
     for label in order:
@@ -119,7 +119,7 @@ def blank(group: Group) -> bytes:
     return number.to_bytes(group.length, "little")
 
 
-class Sending:
+class ShortestMessage:
     """The shortest message of a flow: which flow it is, who sends it and who hears it."""
 
     def __init__(self, flow: Flow, group: Group, labels: list[str]) -> None:
@@ -154,7 +154,7 @@ def traffic(tables: Tables, addressed: set[str], schedule: Schedule) -> list[int
     windows, groups = {unit.label: unit.window for unit in tables.units}, {group.label: group for group in tables.groups}
     left_out = []
     for flow in tables.flows:
-        message = Sending(flow, groups[flow.group], list(windows))
+        message = ShortestMessage(flow, groups[flow.group], list(windows))
         ends = {message.sender} if message.to == "all" else {message.sender, message.to}
         if not message.can_go or not ends <= addressed:
             left_out.append(flow.number)

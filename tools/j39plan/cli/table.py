@@ -12,10 +12,10 @@ import sys
 from collections.abc import Iterable
 
 from j39plan import program
-from j39plan.plan.answers import load_of, stands
+from j39plan.plan.answers import PlanAnswer
 from j39plan.plan.files import text_of
 from j39plan.plan.parts import Source
-from j39plan.plan.sheets import NAMES, Answers, Cell, Sheet, Sheets
+from j39plan.plan.sheets import NAMES, Cell, Sheet, Sheets
 from j39plan.plan.tables import Tables
 from j39plan.text_tables import aligned
 
@@ -27,9 +27,8 @@ def sheets_of(name: str, wanted: Iterable[str], variant: list[str] | None) -> li
     """The tables of a plan that are wanted."""
     text = text_of(name, variant)
     with program.file_of(text) as plan:
-        answers = Answers(stands(program.call(["addresses", "--", plan])[1]), load_of(program.call(["load", "--", plan])[1]))
         source = Source(text, name)
-        sheets = Sheets(source, source.tables if source["choice"] else Tables.of(plan), answers)
+        sheets = Sheets(source, source.tables if source["choice"] else Tables.of(plan), PlanAnswer.of(plan, []))
     return [sheet for key, made in sheets.all.items() if key in wanted and (sheet := made()).rows]
 
 

@@ -10,13 +10,13 @@ import sys
 
 from j39plan import program
 from j39plan.log.files import interface_option
-from j39plan.log.variants import Possible, Seen, possible_by, refuse_pipes
+from j39plan.log.variants import Possible, Claimants, possible_by, refuse_pipes
 from j39plan.plan.diagram import of_line
 from j39plan.plan.files import opened
 from j39plan.plan.variants import line_of, text_of_variant
 
 
-def lines_of(possible: Possible, seen: Seen) -> list[str]:
+def lines_of(possible: Possible, seen: Claimants) -> list[str]:
     """What a log says of the vehicle, as text."""
     lines = [f"claims {', '.join(seen.units) or 'of no unit'}"]
     lines += [f"stranger {name}" for name in seen.others]

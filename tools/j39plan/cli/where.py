@@ -8,12 +8,12 @@ from collections.abc import Callable, Iterable, Iterator
 from j39plan import program
 from j39plan.plan import code_quality, sarif
 from j39plan.plan.answer_objects import check_object
-from j39plan.plan.answer_places import Placed, placed
+from j39plan.plan.answer_places import PlacedPart, placed
 from j39plan.plan.files import opened
 from j39plan.plan.further_faults import further_faults
 from j39plan.plan.hints import requests, variants
 from j39plan.plan.hints.lint import Lint
-from j39plan.plan.hints.names import Asked, asked_in
+from j39plan.plan.hints.names import HintChoice, asked_in
 from j39plan.plan.parts import Source, source_in
 from j39plan.plan.reference import Reference, shipped_reference
 from j39plan.vehicle.answer_objects import vehicle_object
@@ -45,7 +45,7 @@ def github_annotation(file: str, line: int, text: str, below: list[str]) -> list
     return [f"::error file={name},line={line}::{whole}"]
 
 
-def annotate(name: str, parts: Iterable[Placed], form: Form) -> Iterator[str]:
+def annotate(name: str, parts: Iterable[PlacedPart], form: Form) -> Iterator[str]:
     """The lines of an answer's parts, those that have a place in this form."""
     for part in parts:
         if part.line is None:
@@ -60,19 +60,19 @@ def github_notice(file: str, line: int, text: str, _: list[str]) -> list[str]:
     return [f"::notice file={escaped(file, NAME_SIGNS)},line={line}::{escaped(text, TEXT_SIGNS)}"]
 
 
-def hints_of(given: argparse.Namespace, plan: str, used: frozenset[str] = frozenset()) -> list[Placed]:
+def hints_of(given: argparse.Namespace, plan: str, used: frozenset[str] = frozenset()) -> list[PlacedPart]:
     """The hints at a plan that can be read, and of whose units with these labels a vehicle makes use, as far as they are asked for."""
     source = source_in(plan)
-    asked: Asked = given.asked
+    asked: HintChoice = given.asked
     told = [(line, text, "") for line, text in (variants.nowhere(source) if source["choice"] else ())]
     told += [(line, text, "") for line, text in requests.without_period(source)]
     told += Lint(source, used).named(asked) if given.lint else []
-    hints = [Placed(line, f"hint {text}", name, []) for line, text, name in sorted(told)]
+    hints = [PlacedPart(line, f"hint {text}", name, []) for line, text, name in sorted(told)]
     reference: Reference | None = given.reference
     return hints + (reference.differences(source) if reference else [])
 
 
-def lines_of(name: str, hints: list[Placed], parts: list[Placed], github: bool) -> list[str]:
+def lines_of(name: str, hints: list[PlacedPart], parts: list[PlacedPart], github: bool) -> list[str]:
     """The lines that are written: the hints, then the answer."""
     forms = (github_notice, github_annotation) if github else (compiler_message, compiler_message)
     return [line for some, form in zip((hints, parts), forms) for line in annotate(name, some, form)]
@@ -150,9 +150,9 @@ def of_vehicle(given: argparse.Namespace, name: str, data: bytes) -> int:
 def main(words: list[str] | None = None) -> int:
     """Runs `j39plan check`, or of a vehicle `j39plan vehicle`, and answers its exit status."""
     given = words_of(words)
-    hints: list[Placed] = []
-    parts: list[Placed] = []
-    further: list[Placed] = []
+    hints: list[PlacedPart] = []
+    parts: list[PlacedPart] = []
+    further: list[PlacedPart] = []
     with opened(given.plan, given.variant) as plan:
         with open(plan, "rb") as file:
             data = file.read()

@@ -17,7 +17,7 @@ from j39plan.left_out import Notes, plain
 if TYPE_CHECKING:
     import canmatrix
 
-    from j39plan.dbc.merge import Sent
+    from j39plan.dbc.merge import BusFrame
 
 # The attributes of a signal that its kind and its key `spn` are made of, and what each is called in notes.
 ATTRIBUTES = {SPN_ATTRIBUTE: "SPN", CONTENT_ATTRIBUTE: CONTENT_ATTRIBUTE, KIND_ATTRIBUTE: KIND_ATTRIBUTE}
@@ -33,7 +33,7 @@ class Facts:
     attributes: dict[str, tuple[object, str]] = field(default_factory=dict)
 
 
-def message_key(sent: Sent) -> Hashable:
+def message_key(sent: BusFrame) -> Hashable:
     """What messages of one group have in common; makers' own groups are told by identifier and name."""
     frame = sent.frame
     if frame.arbitration_id.pgn in PROPRIETARY:
@@ -41,7 +41,7 @@ def message_key(sent: Sent) -> Hashable:
     return sent.told_by
 
 
-def signal_key(sent: Sent, signal: canmatrix.Signal) -> Hashable:
+def signal_key(sent: BusFrame, signal: canmatrix.Signal) -> Hashable:
     """What the same signals have in common: their group, place, scale and unit of measurement."""
     return message_key(sent), Said.of(signal, "")
 
@@ -54,11 +54,11 @@ def has_range(signal: canmatrix.Signal) -> bool:
 class Agreement:
     """What files agree on. The earlier one counts where they don't, and that is noted."""
 
-    def __init__(self, version: int, message_of: Callable[[Sent], str], notes: Notes) -> None:
+    def __init__(self, version: int, message_of: Callable[[BusFrame], str], notes: Notes) -> None:
         self._facts: dict[Hashable, Facts] = {}
         self._version, self._message_of, self._notes = version, message_of, notes
 
-    def take(self, sent: Sent, signal: canmatrix.Signal) -> None:
+    def take(self, sent: BusFrame, signal: canmatrix.Signal) -> None:
         """Takes what is said of a signal; what is known otherwise is noted."""
         facts, message = self._facts.setdefault(signal_key(sent, signal), Facts()), self._message_of(sent)
         self._notes.file, self._notes.are_new = sent.file, True
@@ -103,7 +103,7 @@ class Agreement:
                 whys.append(f"its {called} is {given}, and {known} in {by}, as in the plan")
         return whys
 
-    def give(self, sent: Sent, signal: canmatrix.Signal) -> None:
+    def give(self, sent: BusFrame, signal: canmatrix.Signal) -> None:
         """Gives a signal what is known of it."""
         facts = self._facts[signal_key(sent, signal)]
         signal.values = {raw: name for raw, (name, _) in facts.names.items()}
@@ -112,7 +112,7 @@ class Agreement:
         signal.attributes = {**signal.attributes, **{attribute: given for attribute, (given, _) in facts.attributes.items()}}
 
 
-def agree(sent: Iterable[Sent], version: int, message_of: Callable[[Sent], str], notes: Notes) -> None:
+def agree(sent: Iterable[BusFrame], version: int, message_of: Callable[[BusFrame], str], notes: Notes) -> None:
     """Has the signals of messages agree on what their files say of them, in a plan of this version."""
     parts = [(one, signal) for one in sent if one.frame.arbitration_id.extended for signal in one.frame.signals]
     agreement = Agreement(version, message_of, notes)

@@ -5,7 +5,7 @@ from __future__ import annotations
 from collections.abc import Iterable, Iterator
 from typing import NamedTuple
 
-from j39plan.dbc.known import Known
+from j39plan.dbc.known import KnownSignal
 from j39plan.dbc.remarks import in_quotes
 from j39plan.left_out import Notes, plain
 from j39plan.plan.schema import most_of
@@ -15,14 +15,14 @@ from j39plan.plan.text import Labels, Table
 WIDTH, HELD, SIGNALS = 32, 64, most_of("group", "signal")
 
 
-class Place(NamedTuple):
+class BitRun(NamedTuple):
     """Bits in a row: the first one, from 0, and how many."""
 
     start: int
     size: int
 
 
-def places_of(bits: int) -> Iterator[Place]:
+def places_of(bits: int) -> Iterator[BitRun]:
     """The rows of bits of a number, none wider than a holder."""
     start = 0
     while bits >> start:
@@ -32,14 +32,14 @@ def places_of(bits: int) -> Iterator[Place]:
         size = 1
         while size < WIDTH and bits >> start + size & 1:
             size += 1
-        yield Place(start, size)
+        yield BitRun(start, size)
         start += size
 
 
 class Holders:
     """The holders of a group, in the making: of the signals that it can't have, those that lie in each of its messages."""
 
-    def __init__(self, known: Iterable[Known], labels: Labels, length: int, count: int, notes: Notes) -> None:
+    def __init__(self, known: Iterable[KnownSignal], labels: Labels, length: int, count: int, notes: Notes) -> None:
         self._known, self._labels, self._length, self._notes = list(known), labels, length, notes
         self._room = SIGNALS - count
         self._there = [one for one in self._known if not one.is_left_out]
@@ -51,7 +51,7 @@ class Holders:
                 names.add(one.signal.name)
                 self._take(one)
 
-    def _take(self, lost: Known) -> None:
+    def _take(self, lost: KnownSignal) -> None:
         """Holds the place of a signal, or names it where that can't be."""
         places = list(places_of(lost.bits))
         others = [one for one in self._there if one.bits & lost.bits]

@@ -16,7 +16,7 @@ if TYPE_CHECKING:
 
 
 @dataclass(eq=False)
-class Known:
+class KnownSignal:
     """A signal that a message of a group has; whether the plan lacks it, why, and whether its bits are held then."""
 
     signal: canmatrix.Signal
@@ -34,10 +34,10 @@ def number_in(signal: canmatrix.Signal) -> str:
     return "" if number == "0" else number
 
 
-def same_signal(new: Known, earlier: Iterable[Known]) -> Known | None:
+def same_signal(new: KnownSignal, earlier: Iterable[KnownSignal]) -> KnownSignal | None:
     """The signal of an earlier message that a signal is, or that it contradicts: that of its name, else of its number, else the one that lies
     and means the same, else one that shares a bit with it."""
-    ways: tuple[Callable[[Known], object], ...] = (
+    ways: tuple[Callable[[KnownSignal], object], ...] = (
         lambda known: known.signal.name == new.signal.name,
         lambda known: number_in(known.signal) == number_in(new.signal) != "",
         lambda known: known.said == new.said,
@@ -52,7 +52,7 @@ def shown_place(signal: canmatrix.Signal) -> str:
     return f"{start // 8 + 1}.{start % 8 + 1}, {signal.size} bits"
 
 
-def difference(known: Known, other: Known) -> str:
+def difference(known: KnownSignal, other: KnownSignal) -> str:
     """How a signal contradicts that of an earlier message."""
     signal, said, name = known.signal, known.said, f"{plain(other.signal.name)} of {other.message}"
     if other.said.place[:2] == said.place[:2] and other.said.place != said.place:

@@ -19,7 +19,7 @@ from j39plan.plan.text import as_label
 if TYPE_CHECKING:
     import canmatrix
 
-    from j39plan.dbc.merge import Sent
+    from j39plan.dbc.merge import BusFrame
 
 # The most groups that a plan has.
 GROUPS = most_of("", "group")
@@ -79,17 +79,17 @@ def selector_of(frame: canmatrix.Frame, version: int) -> tuple[canmatrix.Signal,
     return selector, Bits(start // 8 + 1, start % 8 + 1, selector.size)
 
 
-class Layouts:
+class MultiplexLayouts:
     """Multiplexed messages, as they are taken apart. All messages of a number have to be multiplexed by the same bits, but for makers' own
     ones, which are told by their senders too."""
 
-    def __init__(self, sent: list[Sent], version: int, notes: Notes) -> None:
+    def __init__(self, sent: list[BusFrame], version: int, notes: Notes) -> None:
         self._version, self._notes = version, notes
         self._bits: dict[int, Bits] = {}
         if knows(version, ("group", "when")):
             self._find(sent)
 
-    def _find(self, sent: list[Sent]) -> None:
+    def _find(self, sent: list[BusFrame]) -> None:
         """Looks for the bits by which the messages are told."""
         found: dict[int, set[Bits | None]] = defaultdict(set)
         for one in sent:
@@ -118,13 +118,13 @@ class Layouts:
             self._notes.say(f"group {frame.name}", why)
             return None
 
-    def of(self, one: Sent) -> list[Sent]:
+    def of(self, one: BusFrame) -> list[BusFrame]:
         """A message as those that it is taken apart into; itself alone where it isn't."""
         frame, bits = one.frame, self._bits.get(id(one.frame))
         if bits is None:
             return [one]
         selector, _ = selector_of(frame, self._version)
-        names = Names(frame)
+        names = MultiplexNames(frame)
         left = [signal for signal in frame.signals if not self._is_nested(signal, selector, frame) and not only_selects(signal)]
         values = self._values(frame, left, selector, bits, names.told)
         period = times_of(frame, one.matrix).period
@@ -154,7 +154,7 @@ class Layouts:
         return True
 
 
-class Names:
+class MultiplexNames:
     """What the groups are called that a multiplexed message becomes: as the message says itself, else like the message, with the value."""
 
     def __init__(self, frame: canmatrix.Frame) -> None:

@@ -35,7 +35,7 @@ class Node:
     known_by: set[str] = field(default_factory=set)  # which files have it
 
 
-class Sent(NamedTuple):
+class BusFrame(NamedTuple):
     """A frame, the bus that it is of, and the name of its file where there are several. Where it is one of those that a multiplexed message is
     taken apart into, also the bits by which it is told, and what its group is called."""
 
@@ -51,7 +51,7 @@ class Sent(NamedTuple):
         return self.frame.arbitration_id.pgn, None if self.when is None else self.when["value"]
 
 
-class Known(NamedTuple):
+class NodeFacts(NamedTuple):
     """What is known of nodes beside the files: which names are others of a node, and at which addresses nodes are."""
 
     same: dict[str, str] = {}
@@ -79,11 +79,11 @@ def formats_of(matrix: canmatrix.CanMatrix) -> dict[int, str]:
 class Network:
     """The nodes and frames of all files. A node is known by its name; each file may give what an earlier one doesn't."""
 
-    def __init__(self, notes: Notes, version: int = VERSIONS[-1], known: Known = Known()) -> None:
+    def __init__(self, notes: Notes, version: int = VERSIONS[-1], known: NodeFacts = NodeFacts()) -> None:
         self.notes, self.bitrates, self._known = notes, bitrates_of(version), known
         self.nodes: dict[str, Node] = {}
         self.names: set[str] = set()  # of nodes, as the files have them
-        self.sent: list[Sent] = []
+        self.sent: list[BusFrame] = []
         self.bitrate: int | None = None
         self._bitrate_file = ""
 
@@ -110,7 +110,7 @@ class Network:
             if id(frame) in others:
                 self.notes.say(f"group {frame.name}", f"its {FORMAT_ATTRIBUTE} is {others[id(frame)]}, so it is no group of J1939")
             else:
-                self.sent.append(Sent(frame, matrix, file))
+                self.sent.append(BusFrame(frame, matrix, file))
 
     def add_addresses(self) -> None:
         """Takes the addresses that are known beside the files."""
@@ -179,14 +179,14 @@ class Network:
         return (sent.frame for sent in self.sent)
 
 
-class Fault(LeftOut):
+class FileFault(LeftOut):
     """Why nothing comes of a file of this name."""
 
     def __init__(self, file: str, why: object) -> None:
         super().__init__(f"{plain(file)}: {why}")
 
 
-def load(names: list[str], form: reader.Form, notes: Notes, version: int = VERSIONS[-1], known: Known = Known()) -> Network:
+def load(names: list[str], form: reader.FileOptions, notes: Notes, version: int = VERSIONS[-1], known: NodeFacts = NodeFacts()) -> Network:
     """The network of several files, whose bus is one of a plan of this version. One that holds the same as an earlier one is ignored, and that is noted."""
     network, seen = Network(notes, version, known), dict[bytes, str]()
     for name in names:
@@ -202,7 +202,7 @@ def load(names: list[str], form: reader.Form, notes: Notes, version: int = VERSI
         try:
             matrix = reader.load(name, data, form, notes)
         except LeftOut as why:
-            raise Fault(name, why) from why
+            raise FileFault(name, why) from why
         network.add(matrix, several)
     notes.file = ""
     network.check_known()

@@ -23,7 +23,7 @@ SELECTOR = "Selector"
 
 
 @dataclass
-class Message:
+class DbcMessage:
     """A message of the DBC: its identifier, its groups, of which it has several where it is multiplexed, how many bytes it has, its name and the
     one that is too long for a name, who sends it, whom it goes to, and who else receives it, how far apart its flows are sent, in ms, and what
     is said beside them."""
@@ -57,7 +57,7 @@ class Message:
 
 
 @dataclass
-class Part:
+class MessagePart:
     """A signal or a text of a message, and its group: its name and the one that is too long for a name, what is said beside it, and how it is
     multiplexed: `M` of what tells the groups, and of what only some groups have their values."""
 
@@ -84,10 +84,10 @@ class Part:
         return (self.of.span.stop + 7) // 8 if self.of.optional else self.group.length
 
 
-def selector_of(group: Group, when: When) -> Part:
+def selector_of(group: Group, when: When) -> MessagePart:
     """What stands for the bits that tell a group."""
     signal = Signal("", when.byte, when.bit, when.bits, SELECTOR_KIND, 1, 1, 0, "", False, place=(*group.place, "when"))
-    return Part(signal, group, SELECTOR, "", remarks.Remark())
+    return MessagePart(signal, group, SELECTOR, "", remarks.Remark())
 
 
 class Messages:
@@ -99,16 +99,16 @@ class Messages:
         nodes, self._taken = Names(), Names()
         self.names = {unit.label: nodes.label(unit.label) for unit in self.tables.units}
         self._addresses = {unit.label: unit.address for unit in self.tables.units}
-        self._known: dict[int, Message] = {}
+        self._known: dict[int, DbcMessage] = {}
         self._used: set[str] = set()  # groups that have a message
-        self._parts: dict[tuple[str, ...], list[Part]] = {}
-        self._carried: list[tuple[str, Flow | None, Message]] = []  # groups with their flows, None of one without, and messages
+        self._parts: dict[tuple[str, ...], list[MessagePart]] = {}
+        self._carried: list[tuple[str, Flow | None, DbcMessage]] = []  # groups with their flows, None of one without, and messages
         self._needed: dict[tuple[int, str, str], list[str]] = {}  # who needs a group of a message, or a signal of it
         self._add_all()
         for need in self.tables.needs:
             self._add_need(need)
 
-    def __iter__(self) -> Iterator[Message]:
+    def __iter__(self) -> Iterator[DbcMessage]:
         return iter(self._known.values())
 
     def __len__(self) -> int:
@@ -175,7 +175,7 @@ class Messages:
         if flow.to != "all" and is_pdu2(group.pgn):
             self.notes.say(what, "its identifier names no destination")
 
-    def _add(self, group: Group, name: str, source: int, destination: int, told: remarks.Remark | None = None) -> Message | None:
+    def _add(self, group: Group, name: str, source: int, destination: int, told: remarks.Remark | None = None) -> DbcMessage | None:
         """The message of a group with this source and destination, unless one of another group has its identifier."""
         identifier, told = identifier_of(group.priority, group.pgn, source, destination), told or remarks.Remark()
         if identifier not in self._known:
@@ -183,7 +183,7 @@ class Messages:
             wanted = next(iter(told.messages), "" if group.label in self._used else long_name)
             other = self._taken.label(wanted or name) if group.label in self._used else name
             self._used.add(group.label)
-            self._known[identifier] = Message(identifier, [group], 0, other, wanted if wanted and not Names.fits(wanted) else "")
+            self._known[identifier] = DbcMessage(identifier, [group], 0, other, wanted if wanted and not Names.fits(wanted) else "")
         message = self._known[identifier]
         if not message.may_have(group):
             return None
@@ -214,11 +214,11 @@ class Messages:
         told = [one for message in messages for one in (*message.told, *(part.told for part in self.parts_in(message)))]
         return {label for one in told for label in one.receivers or ()}
 
-    def parts_in(self, message: Message) -> list[Part]:
+    def parts_in(self, message: DbcMessage) -> list[MessagePart]:
         """The signals and texts that a message has."""
         return [part for part in self._parts_of(message) if part.first_length <= message.length]
 
-    def _parts_of(self, message: Message) -> list[Part]:
+    def _parts_of(self, message: DbcMessage) -> list[MessagePart]:
         """The signals and texts of groups of one message that some such message has, with their names; of others that is said."""
         if message.labels not in self._parts:
             parts = self._multiplexed(message.groups) if message.group.when else self._part_list(message.group)
@@ -229,20 +229,20 @@ class Messages:
             self._parts[message.labels] = parts
         return self._parts[message.labels]
 
-    def _part_list(self, group: Group) -> list[Part]:
+    def _part_list(self, group: Group) -> list[MessagePart]:
         """The signals and texts of a group that some message of it has; of others that is said."""
         most = max(message.length for message in self if group.label in message.labels)
         found, tables = [], list[Signal | Text]([*group.signals, *group.texts])
         for table in tables:
             told = self.told(table)
-            part = Part(table, group, next(iter(told.names), table.label), "", told)
+            part = MessagePart(table, group, next(iter(told.names), table.label), "", told)
             if part.first_length <= most:
                 found.append(part)
             else:
                 self.notes.say(f"{table.place[-2]} {table.label} of {group.label}", f"the group's messages end with byte {most}")
         return found
 
-    def _multiplexed(self, groups: list[Group]) -> list[Part]:
+    def _multiplexed(self, groups: list[Group]) -> list[MessagePart]:
         """The signals and texts of a multiplexed message: what each of its groups has is so once, and is no multiplexed one where the groups have all
         values of the multiplexor, or its comment says so; beside it is what tells the groups, which has a signal of its own where no group has one."""
         several = [{(part.of.label, self._meaning(part)): part for part in self._part_list(group)} for group in groups]
@@ -258,14 +258,14 @@ class Messages:
             self.notes.say(f"message {groups[0].label}", f"no signal has the bits that tell its groups: {SELECTOR} stands for them")
             plain.insert(0, selector)
         selector.is_selector = True
-        own: dict[object, Part] = {}
+        own: dict[object, MessagePart] = {}
         for group, parts in zip(groups, several, strict=True):
             assert group.when is not None
             for key in parts.keys() - set(shared):
                 own.setdefault(key, parts[key]).values.append(group.when.value)
         return plain + sorted(own.values(), key=lambda part: part.of.place)
 
-    def _meaning(self, part: Part) -> object:
+    def _meaning(self, part: MessagePart) -> object:
         """What is said of a signal or text, but for its place in the file."""
         places, place = self.source.places, part.of.place
         keys = [key for key in places.keys(place) if key != "values"]
@@ -274,7 +274,7 @@ class Messages:
         said = [(key, places.texts.get((*place, key), places.spelled.get((*place, key)))) for key in keys]
         return isinstance(part.of, Text), tuple(sorted(said)), tuple(sorted(named.items()))
 
-    def receivers(self, message: Message, part: Part) -> list[str]:
+    def receivers(self, message: DbcMessage, part: MessagePart) -> list[str]:
         """Who receives a signal: of those who receive the message the ones that are named beside the signal, if some are; and who needs it."""
         received = message.receivers
         if part.told.receivers is not None:
@@ -282,7 +282,7 @@ class Messages:
             received = [name for name in named if name in message.receivers or not message.receivers]
         return list(dict.fromkeys([*received, *self._needed_by(message, part)]))
 
-    def _needed_by(self, message: Message, part: Part) -> Iterator[str]:
+    def _needed_by(self, message: DbcMessage, part: MessagePart) -> Iterator[str]:
         """Who needs a signal of a message; of one that each group of a multiplexed one has those who need it of all of them."""
         groups = [group for group in message.groups if not part.values or group.when and group.when.value in part.values]
         for label in ("", part.of.label):

@@ -11,7 +11,7 @@ from j39plan.left_out import Notes, some_of
 from j39plan.plan.schema import ABSENT, knows
 
 
-class Box(NamedTuple):
+class NumberedUnit(NamedTuple):
     """A unit of a file: its name and address, its NAME without the identity number, and this, None where the file gives none."""
 
     unit: str
@@ -20,7 +20,7 @@ class Box(NamedTuple):
     number: int | None
 
 
-def numbers_of(boxes: list[Box], keeps: bool, version: int, notes: Notes) -> dict[str, int]:
+def numbers_of(boxes: list[NumberedUnit], keeps: bool, version: int, notes: Notes) -> dict[str, int]:
     """The identity numbers in a plan of this version, by units: those that tell units from one another, and all that are given where they are to
     be kept. A version that asks for a number of each unit has a free one where none is given."""
     given = {box.unit: box.number for box in boxes if box.number is not None}
@@ -41,7 +41,7 @@ def numbers_of(boxes: list[Box], keeps: bool, version: int, notes: Notes) -> dic
     return kept
 
 
-def say_nameless(boxes: list[Box], notes: Notes) -> None:
+def say_nameless(boxes: list[NumberedUnit], notes: Notes) -> None:
     """Says of which units the files give no NAME, where by that they aren't told apart."""
     units = sorted(box.unit for box in boxes if not box.name and box.number is None)
     if len(units) > 1:
@@ -49,14 +49,14 @@ def say_nameless(boxes: list[Box], notes: Notes) -> None:
         notes.say(f"units {some_of(units)}", why)
 
 
-def of_those_alike(boxes: list[Box], notes: Notes) -> dict[str, int]:
+def of_those_alike(boxes: list[NumberedUnit], notes: Notes) -> dict[str, int]:
     """Free numbers of the units that have none and whose NAME another unit has too."""
     names = Counter(repr(sorted(box.name.items())) for box in boxes)
     alike = [box for box in boxes if box.number is None and names[repr(sorted(box.name.items()))] > 1]
     return with_free_ones(alike, {box.unit: box.number for box in boxes if box.number is not None}, notes)
 
 
-def with_free_ones(boxes: list[Box], given: dict[str, int], notes: Notes) -> dict[str, int]:
+def with_free_ones(boxes: list[NumberedUnit], given: dict[str, int], notes: Notes) -> dict[str, int]:
     """The numbers that are given, and free ones of other units in the order of their addresses."""
     free = (number for number in count(1) if number not in given.values())
     without = sorted((box for box in boxes if box.number is None), key=lambda box: (box.address, box.unit))

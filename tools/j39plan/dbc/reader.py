@@ -22,7 +22,7 @@ if TYPE_CHECKING:
 KINDS = {"dbc": True, "sym": True, "arxml": False, "kcd": False}
 
 
-class Lines:
+class FileLines:
     """The lines of a file, which canmatrix takes one after another, and which of them it is at."""
 
     def __init__(self, data: bytes, notes: Notes) -> None:
@@ -53,10 +53,10 @@ class Lines:
             self.refused_message = self.number
 
 
-class Heard(io.StringIO):
+class CanmatrixOutput(io.StringIO):
     """Stands for standard output and the log while canmatrix reads, and makes notes of what comes there."""
 
-    def __init__(self, lines: Lines) -> None:
+    def __init__(self, lines: FileLines) -> None:
         super().__init__()
         self.lines = lines
 
@@ -71,9 +71,9 @@ class Heard(io.StringIO):
 
 
 @contextlib.contextmanager
-def heard(lines: Lines) -> Iterator[None]:
+def heard(lines: FileLines) -> Iterator[None]:
     """Makes notes of what canmatrix prints and of the errors that it logs."""
-    log, ear = logging.getLogger("canmatrix"), Heard(lines)
+    log, ear = logging.getLogger("canmatrix"), CanmatrixOutput(lines)
     handler = logging.StreamHandler(ear)
     log.addHandler(handler)
     try:
@@ -130,7 +130,7 @@ def buses_of(kind: str, data: bytes, encoding: str | None, notes: Notes) -> dict
     import canmatrix.formats
     if KINDS[kind]:
         data = lines_of(data, encoding)
-    lines = Lines(data, notes)
+    lines = FileLines(data, notes)
     file = lines if kind == "dbc" else io.BytesIO(data)
     try:
         with heard(lines):
@@ -157,7 +157,7 @@ def chosen_bus(buses: dict[str, canmatrix.CanMatrix], bus: str | None) -> canmat
     raise LeftOut(f"--bus {plain(bus)}: " + (f"its buses are {there}" if there else "its only bus has no name"))
 
 
-class Form(NamedTuple):
+class FileOptions(NamedTuple):
     """What is said of a file beside its name: which of its buses is wanted, of which kind it is, in which encoding its lines are, and of a sheet which
     columns are which."""
 
@@ -167,7 +167,7 @@ class Form(NamedTuple):
     columns: Mapping = Mapping({}, [])
 
 
-def load(name: str, data: bytes, form: Form, notes: Notes) -> canmatrix.CanMatrix:
+def load(name: str, data: bytes, form: FileOptions, notes: Notes) -> canmatrix.CanMatrix:
     """The bus of a file of this name, which holds these bytes: the one that is wanted, or its only one."""
     kind = (form.kind or name.rpartition(".")[2]).lower()
     if kind in sheet_files.KINDS:

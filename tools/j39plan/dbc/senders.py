@@ -12,7 +12,7 @@ from j39plan.left_out import Notes
 if TYPE_CHECKING:
     import canmatrix
 
-    from j39plan.dbc.merge import Sent
+    from j39plan.dbc.merge import BusFrame
 
 
 def senders_of(frame: canmatrix.Frame) -> list[str]:
@@ -26,7 +26,7 @@ def source_of(frame: canmatrix.Frame) -> int | None:
     return int(ident.j1939_source) if ident.extended and ident.j1939_source not in (NULL_ADDRESS, GLOBAL_ADDRESS) else None
 
 
-def give_senders(sent: Iterable[Sent], units: Mapping[str, int], notes: Notes) -> None:
+def give_senders(sent: Iterable[BusFrame], units: Mapping[str, int], notes: Notes) -> None:
     """Gives each frame without a sender the unit that has its source address, these units being at these addresses. Where another file
     names that unit as the sender of the same identifier nothing is noted."""
     messages = list(sent)

@@ -11,7 +11,7 @@ from math import lcm
 from typing import TYPE_CHECKING, Any, NamedTuple
 
 from j39plan.dbc.holders import Holders
-from j39plan.dbc.known import Known, difference, same_signal
+from j39plan.dbc.known import KnownSignal, difference, same_signal
 from j39plan.dbc.names import (
     ALWAYS_ATTRIBUTE, BYTES_ATTRIBUTE, CODE_CONTENT, CONTENT_ATTRIBUTE, KIND_ATTRIBUTE, REPEATED_ATTRIBUTE, SIGNAL_ATTRIBUTE, SPN_ATTRIBUTE, TEXT_CONTENT,
 )
@@ -298,7 +298,7 @@ def bits_of(signal: canmatrix.Signal) -> int:
     return sum(1 << (bit ^ 7) for bit in range(start, start + size))
 
 
-class Kept(NamedTuple):
+class PlanSignal(NamedTuple):
     """A signal or text that is in the plan: its table, who receives it by the names of nodes, and other names that it has in messages."""
 
     signal: canmatrix.Signal
@@ -315,12 +315,12 @@ class Signals:
         self.lengths, self.notes, self.strict, self.version = lengths, notes, strict, version
         self.is_private, self.has_records = is_private, has_records
         self.labels, self.layout = Labels(), Layout()
-        self.known: list[Known] = []
-        self.signals: list[Kept] = []
-        self.texts: list[Kept] = []
+        self.known: list[KnownSignal] = []
+        self.signals: list[PlanSignal] = []
+        self.texts: list[PlanSignal] = []
 
     @property
-    def kept(self) -> list[Kept]:
+    def kept(self) -> list[PlanSignal]:
         """All that is in the plan."""
         return self.signals + self.texts
 
@@ -357,9 +357,9 @@ class Signals:
                 self.say(signal, frame, f"left out: {why}")
         return contradicted
 
-    def contradicts(self, signal: canmatrix.Signal, frame: canmatrix.Frame, earlier: list[Known], message: str) -> bool:
+    def contradicts(self, signal: canmatrix.Signal, frame: canmatrix.Frame, earlier: list[KnownSignal], message: str) -> bool:
         """Takes a signal, unless one of an earlier message contradicts it, and says whether one does."""
-        known = Known(signal, self.said_of(signal), bits_of(signal), message)
+        known = KnownSignal(signal, self.said_of(signal), bits_of(signal), message)
         other = same_signal(known, earlier)
         if other is not None and other.is_left_out:
             return self.contradicts_a_lost_one(known, frame, earlier, other)
@@ -368,7 +368,7 @@ class Signals:
             return False
         return self.is_otherwise(known, frame, other)
 
-    def is_otherwise(self, known: Known, frame: canmatrix.Frame, other: Known) -> bool:
+    def is_otherwise(self, known: KnownSignal, frame: canmatrix.Frame, other: KnownSignal) -> bool:
         """Whether a signal contradicts one of the plan, which is said; else the plan takes what is new of it."""
         if other.said != known.said:
             self.say(known.signal, frame, f"{difference(known, other)}; only that one is in the plan")
@@ -376,7 +376,7 @@ class Signals:
         self.agree(known.signal, frame, other)
         return False
 
-    def contradicts_a_lost_one(self, known: Known, frame: canmatrix.Frame, earlier: list[Known], lost: Known) -> bool:
+    def contradicts_a_lost_one(self, known: KnownSignal, frame: canmatrix.Frame, earlier: list[KnownSignal], lost: KnownSignal) -> bool:
         """The same of a signal whose earlier one isn't in the plan: it may be there in its place."""
         kept = same_signal(known, [one for one in earlier if not one.is_left_out])
         if kept is not None:
@@ -391,7 +391,7 @@ class Signals:
             self.say(known.signal, frame, f"{difference(known, lost)}; only this one is in the plan")
         return False
 
-    def agree(self, signal: canmatrix.Signal, frame: canmatrix.Frame, other: Known) -> None:
+    def agree(self, signal: canmatrix.Signal, frame: canmatrix.Frame, other: KnownSignal) -> None:
         """Takes what a message says anew of a signal that is known."""
         for kept in self.kept:
             if kept.said == other.said:
@@ -428,7 +428,7 @@ class Signals:
             self.say(signal, frame, f"it is called {label}: {as_label(wanted)} is another signal of the group")
         return label
 
-    def add(self, known: Known, frame: canmatrix.Frame) -> None:
+    def add(self, known: KnownSignal, frame: canmatrix.Frame) -> None:
         """Adds a signal or a text, as far as a plan has it."""
         self.known.append(known)
         known.is_left_out = True
@@ -439,13 +439,13 @@ class Signals:
             raise
         known.is_left_out = False
 
-    def add_table(self, known: Known, frame: canmatrix.Frame) -> None:
+    def add_table(self, known: KnownSignal, frame: canmatrix.Frame) -> None:
         """Adds the table of a signal or a text."""
         signal, receivers = known.signal, dict.fromkeys(known.signal.receivers)
         if is_text(signal) and knows(self.version, ("group", "text")):
-            self.texts.append(Kept(signal, known.said, self.text(signal, frame), receivers, {}))
+            self.texts.append(PlanSignal(signal, known.said, self.text(signal, frame), receivers, {}))
         else:
-            self.signals.append(Kept(signal, known.said, self.number(signal, frame), receivers, {}))
+            self.signals.append(PlanSignal(signal, known.said, self.number(signal, frame), receivers, {}))
 
     def text(self, signal: canmatrix.Signal, frame: canmatrix.Frame) -> Table:
         """The table of a text. It may lie over signals."""

@@ -31,7 +31,7 @@ def number_of(value: object) -> int | None:
         return None
 
 
-class Times(NamedTuple):
+class CycleTimes(NamedTuple):
     """How far apart messages are at least, in ms, None where that isn't said; their cycle time where that is no least distance, else 0; by
     what they are sent where it isn't a cycle alone; and what is noted of it, with what it is noted of."""
 
@@ -59,7 +59,7 @@ def cycle_of(frame: canmatrix.Frame, matrix: canmatrix.CanMatrix) -> tuple[int, 
     return default, bool(default)
 
 
-def times_of(frame: canmatrix.Frame, matrix: canmatrix.CanMatrix) -> Times:
+def times_of(frame: canmatrix.Frame, matrix: canmatrix.CanMatrix) -> CycleTimes:
     """How far apart the messages of a frame are at least. Where its cycle alone sends it that is its cycle time, or the shorter one while it
     is active; where something else sends it too, its delay time."""
     way = plain(attribute_of(frame, SEND_ATTRIBUTE, matrix) or "")
@@ -72,8 +72,8 @@ def times_of(frame: canmatrix.Frame, matrix: canmatrix.CanMatrix) -> Times:
             notes.append((what, f"it is sent {way}: its period is its delay time of {delay} ms, not its cycle time of {cycle} ms"))
         elif cycle and not delay:
             notes.append((what, f"it is sent {way}, and its cycle time of {cycle} ms is no least distance: it has no period"))
-        return Times(delay or None, cycle, way.replace(" ", "_"), notes)
+        return CycleTimes(delay or None, cycle, way.replace(" ", "_"), notes)
     if 0 < fast < cycle:
         notes.append((what, f"its period is {fast} ms, as while it is active; else its cycle time is {cycle} ms"))
-        return Times(fast, cycle, "", notes)
-    return Times(cycle or fast or delay or None, 0, "", notes)
+        return CycleTimes(fast, cycle, "", notes)
+    return CycleTimes(cycle or fast or delay or None, 0, "", notes)

@@ -11,16 +11,16 @@ from typing import TYPE_CHECKING, Any
 
 from j39plan.dbc.addresses import addresses_of, number_in, own
 from j39plan.dbc.agreement import agree
-from j39plan.dbc.layouts import Layouts, are_apart
-from j39plan.dbc.merge import Network, Node, Sent
+from j39plan.dbc.layouts import MultiplexLayouts, are_apart
+from j39plan.dbc.merge import Network, Node, BusFrame
 from j39plan.dbc.names import (
     ARBITRARY_ATTRIBUTE, EVERY_ATTRIBUTE, GROUP_ATTRIBUTE, IDENTITY_ATTRIBUTE, MOST_ATTRIBUTE, NAME_ATTRIBUTES, NOBODY,
     UNIT_ATTRIBUTE,
 )
-from j39plan.dbc.numbers import Box, numbers_of
+from j39plan.dbc.numbers import NumberedUnit, numbers_of
 from j39plan.dbc.remarks import long, milliseconds, quoted, received_by, remark
 from j39plan.dbc.signals import BYTES, Signals, goes_to_all_ones
-from j39plan.dbc.times import Times, number_of, times_of
+from j39plan.dbc.times import CycleTimes, number_of, times_of
 from j39plan.j1939 import GLOBAL_ADDRESS, NULL_ADDRESS, PROPRIETARY, SERVICES
 from j39plan.left_out import LeftOut, Notes, plain, some_of
 from j39plan.plan.schema import knows, most_of
@@ -69,7 +69,7 @@ def check_frame(frame: canmatrix.Frame, version: int) -> None:
         raise LeftOut(f"it has {frame.size} bytes")
 
 
-def called(sent: Sent) -> str:
+def called(sent: BusFrame) -> str:
     """What a frame's group is called: by the frame, unless this says that it is one of several of a group, or it is one of a multiplexed message."""
     return sent.name or plain(sent.frame.attributes.get(GROUP_ATTRIBUTE) or sent.frame.name or "")
 
@@ -81,7 +81,7 @@ def common_name(names: Iterable[str]) -> str:
     return "_".join(words[0] for words in common) or "_".join(first)
 
 
-def names_of_groups(sent: Iterable[Sent]) -> dict[tuple[int, int | None], str]:
+def names_of_groups(sent: Iterable[BusFrame]) -> dict[tuple[int, int | None], str]:
     """What the groups are called that are no makers' own ones: by what all frames of one have in common; those of a multiplexed message as its
     first one."""
     names: dict[tuple[int, int | None], dict[str, None]] = {}
@@ -91,7 +91,7 @@ def names_of_groups(sent: Iterable[Sent]) -> dict[tuple[int, int | None], str]:
     return {told: common_name(several) if told[1] is None else next(iter(several)) for told, several in names.items()}
 
 
-def lengths_of_groups(sent: Iterable[Sent]) -> dict[tuple[int, int | None], range]:
+def lengths_of_groups(sent: Iterable[BusFrame]) -> dict[tuple[int, int | None], range]:
     """The lengths of the frames of each group that is no maker's own one, from the least to the greatest."""
     lengths: dict[tuple[int, int | None], set[int]] = defaultdict(set)
     for one in sent:
@@ -114,9 +114,9 @@ class Group:
     name: str
     table: Table
     signals: Signals
-    made_by: Sent
+    made_by: BusFrame
     comment: str
-    by_identifier: dict[int, Sent] = field(default_factory=dict)
+    by_identifier: dict[int, BusFrame] = field(default_factory=dict)
 
     @property
     def label(self) -> str:
@@ -180,7 +180,7 @@ class Conversion:
         for name in list(addresses)[UNITS:]:
             self.notes.say(f"unit {name}", f"a plan has at most {UNITS} units")
         nodes = [(self.network.nodes[name], address) for name, address in list(addresses.items())[:UNITS]]
-        boxes = [Box(node.name, address, name_of(node, self.notes), own(node, *IDENTITY_ATTRIBUTE, self.notes)) for node, address in nodes]
+        boxes = [NumberedUnit(node.name, address, name_of(node, self.notes), own(node, *IDENTITY_ATTRIBUTE, self.notes)) for node, address in nodes]
         numbers = numbers_of(boxes, self.keeps_numbers, self.version, self.notes)
         for (node, address), box in zip(nodes, boxes, strict=True):
             number = numbers.get(node.name)
@@ -215,11 +215,11 @@ class Conversion:
         """The labels of the nodes of these names that are units of the plan."""
         return [self.units[name].keys["label"] for name in names if name in self.units]
 
-    def message_of(self, sent: Sent) -> str:
+    def message_of(self, sent: BusFrame) -> str:
         """What a frame is called in notes on another one."""
         return plain(sent.frame.name or "") + (f" in {sent.file}" if sent.file else "")
 
-    def group_of(self, sent: Sent) -> tuple[Group, list[str]]:
+    def group_of(self, sent: BusFrame) -> tuple[Group, list[str]]:
         """The frame's group, which another frame of the same number may have made, and its signals that one of the group contradicts."""
         frame = sent.frame
         check_frame(frame, self.version)
@@ -232,7 +232,7 @@ class Conversion:
             self.compare(sent, group)
         return group, group.signals.take(frame, self.message_of(sent))
 
-    def new_group(self, sent: Sent) -> Group:
+    def new_group(self, sent: BusFrame) -> Group:
         """A group of a frame's number, without signals yet."""
         frame = sent.frame
         if len(self.groups) == GROUPS:
@@ -255,7 +255,7 @@ class Conversion:
         self.groups.append(group)
         return group
 
-    def say_other_name(self, sent: Sent, name: str, label: str) -> None:
+    def say_other_name(self, sent: BusFrame, name: str, label: str) -> None:
         """Says where a group isn't called as its message, since another group is; and where that one's is a message of the same name and sender."""
         other = next((group for group in self.groups if group.label == as_label(name)), None)
         if label == as_label(name) or other is None:
@@ -265,12 +265,12 @@ class Conversion:
         same_sender = f" of {', '.join(sorted(alike))}" if alike else ""
         self.notes.say(f"group {sent.frame.name}", f"its PGN is {pgn}, that of {self.message_of(made)}{same_sender} is {number}: it is called {label}")
 
-    def lengths_of(self, sent: Sent) -> range:
+    def lengths_of(self, sent: BusFrame) -> range:
         """The lengths of the messages that a frame's group has: its own alone, unless the plan can say which signals only longer ones have."""
         own_length = range(sent.frame.size, sent.frame.size + 1)
         return self.lengths.get(sent.told_by, own_length) if knows(self.version, ("signal", "optional")) else own_length
 
-    def private_ones(self, sent: Sent, others: list[Group]) -> list[Group]:
+    def private_ones(self, sent: BusFrame, others: list[Group]) -> list[Group]:
         """Of the makers' own groups of a frame's number the one that the frame is of, if there is one already. It is told from
         others by who sends it to whom, so it needs a flow, and no other one may meet its flows."""
         frame = sent.frame
@@ -288,7 +288,7 @@ class Conversion:
                 raise LeftOut(f"{group.label} has the same PGN {pgn} from the same unit to the same receiver, and is another group")
         return same[:1]
 
-    def is_one_message(self, sent: Sent, group: Group) -> bool:
+    def is_one_message(self, sent: BusFrame, group: Group) -> bool:
         """Whether a frame is the message that has made a group, as another file has it."""
         frame, made_by = sent.frame, group.made_by.frame
         return bool((frame.arbitration_id.id, frame.size, called(sent)) == (made_by.arbitration_id.id, made_by.size, group.name))
@@ -299,7 +299,7 @@ class Conversion:
             (label, unit) == (group.label, sender) and (receiver == to or "all" in (receiver, to)) for label, unit, to in self.flows
         )
 
-    def compare(self, sent: Sent, group: Group) -> None:
+    def compare(self, sent: BusFrame, group: Group) -> None:
         """Says what a frame has otherwise than the message that has made its group, or than another one of its identifier."""
         frame = sent.frame
         what, made = f"group {frame.name}", self.message_of(group.made_by)
@@ -338,7 +338,7 @@ class Conversion:
         senders = self.labels_of(frame.transmitters)
         return [(sender, receiver) for sender in senders for receiver in self.receivers_of(frame) if sender != receiver]
 
-    def add_flows(self, sent: Sent, group: Group, contradicted: list[str]) -> None:
+    def add_flows(self, sent: BusFrame, group: Group, contradicted: list[str]) -> None:
         """Who sends a group to whom, as far as the file names units."""
         frame, times = sent.frame, times_of(sent.frame, sent.matrix)
         period = times.period if self.periods else None
@@ -369,7 +369,7 @@ class Conversion:
             if planned != source:
                 self.notes.say(f"group {frame.name}", f"its identifier has the source address {source}, {name} has {planned}")
 
-    def times_told(self, times: Times, period: int | None) -> list[str]:
+    def times_told(self, times: CycleTimes, period: int | None) -> list[str]:
         """What is kept of a frame's times beside the period of its flow, as remarks."""
         cycle = times.cycle or times.period or 0
         return [f"sent {times.sent}" if times.sent else "", milliseconds(cycle) if cycle != period or times.sent else ""]
@@ -379,7 +379,7 @@ class Conversion:
         lengths = group.signals.lengths
         return long(frame.size) if len(lengths) > 1 and frame.size in lengths else ""
 
-    def add_facts(self, flow: Flow, sent: Sent, group: Group, times: Times, period: int | None, contradicted: list[str]) -> None:
+    def add_facts(self, flow: Flow, sent: BusFrame, group: Group, times: CycleTimes, period: int | None, contradicted: list[str]) -> None:
         """What is kept of a frame at a flow of it: its name, who receives it, where its destination is no unit's that, its times, its
         comment where it isn't the group's, and what of it is laid out otherwise."""
         frame, lost = sent.frame, self.lost_destination(sent.frame)
@@ -439,9 +439,9 @@ class Conversion:
             if (unit, group) not in met:
                 self.notes.say(f"need of {group} by {unit}", "no unit of the plan sends it there")
 
-    def add_frames(self, frames: list[Sent]) -> None:
+    def add_frames(self, frames: list[BusFrame]) -> None:
         """The groups of the frames, their flows, and who needs them. What is to be noted of a multiplexed message is noted once."""
-        layouts = Layouts(frames, self.version, self.notes)
+        layouts = MultiplexLayouts(frames, self.version, self.notes)
         sent = [part for one in frames for part in layouts.of(one)]
         agree(sent, self.version, self.message_of, self.notes)
         self.names, self.lengths = names_of_groups(sent), lengths_of_groups(sent)

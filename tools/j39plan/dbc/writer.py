@@ -6,7 +6,7 @@ import re
 from collections.abc import Iterator
 
 from j39plan.dbc import remarks
-from j39plan.dbc.messages import Message, Messages, Part
+from j39plan.dbc.messages import DbcMessage, Messages, MessagePart
 from j39plan.dbc.names import (
     ADDRESS_ATTRIBUTE, ARBITRARY_ATTRIBUTE, BITRATE_ATTRIBUTE, BYTES_ATTRIBUTE, CODE_CONTENT, CONTENT_ATTRIBUTE, CONTENTS, CYCLE_ATTRIBUTE,
     DELAY_ATTRIBUTE, EVERY_ATTRIBUTE, FAST_ATTRIBUTE, GROUP_ATTRIBUTE, GROUPS_ATTRIBUTE, IDENTITY_ATTRIBUTE, KIND_ATTRIBUTE, LONG_MESSAGE,
@@ -29,13 +29,13 @@ NUMBER = re.compile(r"[0-9.+\-eE]+")
 EXTENDED = 1 << 31
 
 
-def bytes_in(message: Message, text: Text) -> int:
+def bytes_in(message: DbcMessage, text: Text) -> int:
     """How many bytes of a text a message has."""
     there = message.length - text.byte + 1
     return there if text.bytes is None else min(there, text.bytes)
 
 
-def spelled_text(message: Message, text: Text) -> str:
+def spelled_text(message: DbcMessage, text: Text) -> str:
     """Where a text lies in a message."""
     return f'{8 * (text.byte - 1)}|{8 * bytes_in(message, text)}@1+ (1,0) [0|0] ""'
 
@@ -51,7 +51,7 @@ def spelled_signal(signal: Signal, told: remarks.Remark) -> str:
     return f"{place} ({decimal(step, per)},{decimal(offset, per)}) [{least}|{greatest}] {in_quotes(measure.unit)}"
 
 
-def named_values(part: Part) -> dict[int, str]:
+def named_values(part: MessagePart) -> dict[int, str]:
     """The names of a signal's raw numbers: those that stand beside it, which may be longer, else those of the plan. A DBC has negative
     numbers of a signed signal."""
     if isinstance(part.of, Text):
@@ -85,7 +85,7 @@ class Writer:
         attributes = [*self.bus_attributes(), *self.unit_attributes(), *self.message_attributes()]
         return "\n".join([*lines, *self.comments(), *definitions(list(self.ways)), *attributes, *self.values(), *self.multiplexors()]) + "\n"
 
-    def message_lines(self, message: Message) -> Iterator[str]:
+    def message_lines(self, message: DbcMessage) -> Iterator[str]:
         """A message and its signals."""
         sender = message.senders[0] if message.senders else NOBODY
         yield f"BO_ {message.identifier | EXTENDED} {message.name}: {message.length} {sender}"
@@ -163,7 +163,7 @@ class Writer:
             for part in self.messages.parts_in(message):
                 yield from self.part_attributes(message, part)
 
-    def told_groups(self, message: Message, what: str) -> Iterator[str]:
+    def told_groups(self, message: DbcMessage, what: str) -> Iterator[str]:
         """What the groups of a multiplexed message are called, where they aren't called as it is, with their values; and where one of them has
         no signal of its own, so that the message tells of its value so."""
         values = [(group.when.value, group.label) for group in message.groups if group.when]
@@ -172,7 +172,7 @@ class Writer:
             named = ", ".join(f"{value} {label}" for value, label in values)
             yield f'BA_ "{GROUPS_ATTRIBUTE}" {what} {in_quotes(named)};'
 
-    def times(self, message: Message) -> Iterator[tuple[str, int]]:
+    def times(self, message: DbcMessage) -> Iterator[tuple[str, int]]:
         """The attributes on how far apart a message's frames are."""
         if len(message.periods) > 1:
             told = ", ".join(map(str, sorted(message.periods)))
@@ -185,7 +185,7 @@ class Writer:
                  FAST_ATTRIBUTE: period if cycle and not sent else 0}
         yield from ((attribute, time) for attribute, time in times.items() if time)
 
-    def part_attributes(self, message: Message, part: Part) -> Iterator[str]:
+    def part_attributes(self, message: DbcMessage, part: MessagePart) -> Iterator[str]:
         """The attributes of a signal or text."""
         what, of = f"SG_ {message.identifier | EXTENDED} {part.name}", part.of
         if part.name != of.label and of.label:

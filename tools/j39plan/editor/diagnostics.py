@@ -10,7 +10,7 @@ from collections.abc import Iterable, Iterator
 from j39plan import program
 from j39plan.editor.documents import Document, Documents
 from j39plan.editor.protocol import Object
-from j39plan.plan.answer_places import Placed, placed
+from j39plan.plan.answer_places import PlacedPart, placed
 from j39plan.plan.code_quality import name_of
 from j39plan.plan.further_faults import further_faults
 from j39plan.plan.hints import variants
@@ -37,7 +37,7 @@ NO_PLAN = re.compile(r".*?:(\d+): (.*)", re.DOTALL)
 Shown = dict[str, list[Object]]
 
 
-def keys_in(part: Placed) -> Iterator[str]:
+def keys_in(part: PlacedPart) -> Iterator[str]:
     """The keys that an answer may be about, the likeliest first."""
     for said in (part.hint, part.answer):
         yield from (word for found in KEY.finditer(said) for word in found.groups() if word)
@@ -61,7 +61,7 @@ def span_of(document: Document, line: int, keys: Iterable[str]) -> tuple[int, in
     return begin + len(said) - len(said.lstrip()), max(begin + len(whole), begin)
 
 
-def related(document: Document, part: Placed, span: Object) -> list[Object]:
+def related(document: Document, part: PlacedPart, span: Object) -> list[Object]:
     """The lines that a hint refers to, the steps of a run that shows a finding, and the vehicles of a line that have it."""
     found = []
     for line in dict.fromkeys(int(number) for number in LINES.findall(part.hint)):
@@ -70,7 +70,7 @@ def related(document: Document, part: Placed, span: Object) -> list[Object]:
     return found + [{"location": {"uri": document.uri, "range": span}, "message": text.strip()} for text in part.all_below]
 
 
-def diagnostic(document: Document, part: Placed, severity: int) -> Object:
+def diagnostic(document: Document, part: PlacedPart, severity: int) -> Object:
     """A part of an answer, at its keys."""
     span = document.lines.range(*span_of(document, part.line or 1, keys_in(part)))
     name = re.match(r"[FG]\d+", part.answer)
@@ -90,10 +90,10 @@ def of_plan(document: Document, reference: Reference | None) -> list[Object]:
     if status in (0, 1):
         source = Source(document.text)
         told = [*(variants.nowhere(source) if source["choice"] else ()), *Lint(source).hints()]
-        hints = [Placed(line, f"hint {text}", "", []) for line, text in sorted(told)] + (reference.differences(source, False) if reference else [])
+        hints = [PlacedPart(line, f"hint {text}", "", []) for line, text in sorted(told)] + (reference.differences(source, False) if reference else [])
         found += [diagnostic(document, hint, INFORMATION) for hint in hints]
     elif not found:
-        found.append(diagnostic(document, Placed(1, answer.strip() or "j39plan gives no answer", "", []), ERROR))
+        found.append(diagnostic(document, PlacedPart(1, answer.strip() or "j39plan gives no answer", "", []), ERROR))
     return found
 
 
@@ -134,7 +134,7 @@ class Copied:
             text = text.replace(copy, named).replace(f'"{os.path.basename(copy)}"', f'"{named}"')
         return text
 
-    def in_words(self, part: Placed) -> Placed:
+    def in_words(self, part: PlacedPart) -> PlacedPart:
         """A part of an answer with these names."""
         return part._replace(answer=self.renamed(part.answer), hint=self.renamed(part.hint))
 
@@ -152,7 +152,7 @@ def of_vehicle(document: Document, documents: Documents) -> Shown:
             found = NO_PLAN.fullmatch(copied.renamed(str(refused)))
             parts, further = [], []
             line, text = (int(found.group(1)), found.group(2)) if found else (1, str(refused) or "j39plan gives no answer")
-            shown[document.uri].append(diagnostic(document, Placed(line, text, "", []), ERROR))
+            shown[document.uri].append(diagnostic(document, PlacedPart(line, text, "", []), ERROR))
         for file, _, part in (*parts, *further):
             path = document.path if file == copied.name else copied.files[file][0]
             other = documents.by_path(path) if part.line is not None else None

@@ -7,7 +7,7 @@ from collections.abc import Callable, Iterator
 from typing import TYPE_CHECKING, NamedTuple
 
 from j39plan import program
-from j39plan.dbc.reader import KINDS, Form, load
+from j39plan.dbc.reader import KINDS, FileOptions, load
 from j39plan.dbc.signals import exactly, in_ascii, long_name, number_of_signal, place_of, unit_of
 from j39plan.left_out import LeftOut, Unsaid
 from j39plan.plan.parts import Source, source_in
@@ -76,7 +76,7 @@ def in_file(name: str) -> Iterator[KnownGroup]:
     with open(name, "rb") as file:
         data = file.read()
     try:
-        matrix = load(name, data, Form(), Unsaid())
+        matrix = load(name, data, FileOptions(), Unsaid())
     except LeftOut as why:
         raise program.Refused(program.UNREADABLE, f"{name}: {why}") from why
     for frame in matrix.frames:

@@ -19,7 +19,7 @@ from itertools import islice
 from typing import TYPE_CHECKING, Any, NamedTuple, TypedDict
 
 from j39plan import program
-from j39plan.fleet.signals import Code, Signals, Spread
+from j39plan.fleet.signals import CodeOfUnit, Signals, Spread
 from j39plan.log.clock import DAY, SECOND, nanoseconds
 from j39plan.log.files import OneInterface, is_packed, whole
 from j39plan.log.reports import KIND, Below, Writer, as_it_comes, below_of, identity_of, in_blocks, who_of
@@ -79,7 +79,7 @@ class Drive(TypedDict):
     claims: dict[str, Claimed]
     signals: dict[str, Spread]
     others: dict[str, Spread]
-    codes: list[Code]
+    codes: list[CodeOfUnit]
 
 
 def process_of(words: list[str]) -> subprocess.Popen[bytes]:

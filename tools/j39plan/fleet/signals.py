@@ -30,7 +30,7 @@ class Spread(NamedTuple):
     states: dict[str, int]
 
 
-class Seen:
+class ValueRange:
     """The same as it is found, and into how many parts of its unit the values of the plan are."""
 
     __slots__ = ("parts", "least", "least_line", "most", "most_line", "states")
@@ -48,7 +48,7 @@ class Seen:
         return Spread(self.least, self.least_line, self.most, self.most_line, self.states)
 
 
-class Code(NamedTuple):
+class CodeOfUnit(NamedTuple):
     """A trouble code: its SPN and FMI, the group and the unit (else the NAME or the address) that it is of, how often it came, and where and when
     first and last, in seconds, None in a log without times."""
 
@@ -68,9 +68,9 @@ class Signals:
         self._scales = {(group.label, signal.label): measure_of(signal.unit) for group in tables.groups for signal in group.signals}
         self._counts: dict[tuple[bool, str], dict[bytes, list[int]]] = {}
         self._kept = 0
-        self._found: dict[bool, dict[str, Seen]] = {True: {}, False: {}}
-        self._seen: dict[tuple[bool, str, str], Seen] = {}  # the same by whether a flow has the message, its group, and the label
-        self._codes: dict[tuple[int, int, str, str], Code] = {}
+        self._found: dict[bool, dict[str, ValueRange]] = {True: {}, False: {}}
+        self._seen: dict[tuple[bool, str, str], ValueRange] = {}  # the same by whether a flow has the message, its group, and the label
+        self._codes: dict[tuple[int, int, str, str], CodeOfUnit] = {}
 
     def sent(self, is_planned: bool, group: str) -> dict[bytes, list[int]]:
         """The lines that came below messages of a group that a flow has, or none, with how often each came and the first message: who finds a line
@@ -97,9 +97,9 @@ class Signals:
             return
         key, place = (int(told.group(1)), int(told.group(2)), group, sender), (number, None if at is None else at / SECOND)
         known = self._codes.get(key)
-        self._codes[key] = known._replace(times=known.times + 1, last=place) if known else Code(*key, 1, place, place)
+        self._codes[key] = known._replace(times=known.times + 1, last=place) if known else CodeOfUnit(*key, 1, place, place)
 
-    def codes(self) -> list[Code]:
+    def codes(self) -> list[CodeOfUnit]:
         """The trouble codes, in the order in which they came first."""
         return list(self._codes.values())
 
@@ -117,7 +117,7 @@ class Signals:
             lines.clear()
         self._kept = 0
 
-    def _take(self, found: dict[str, Seen], group: str, line: bytes, times: int, number: int) -> None:
+    def _take(self, found: dict[str, ValueRange], group: str, line: bytes, times: int, number: int) -> None:
         """Takes a line that came so often."""
         _, _, label, said = line[:-1].decode().split(" ", 3)
         seen = self._seen.get((found is self._found[True], group, label))
@@ -126,7 +126,7 @@ class Signals:
             scale = self._scales.get((group, signal))
             if scale is None:
                 return
-            seen = found.setdefault(f"{group}.{signal}", Seen(scale.parts))
+            seen = found.setdefault(f"{group}.{signal}", ValueRange(scale.parts))
             self._seen[found is self._found[True], group, label] = seen
         state, _, behind = said.partition(" ")
         seen.states[state] = seen.states.get(state, 0) + times

@@ -8,7 +8,7 @@ from dataclasses import dataclass, replace
 from typing import Any
 
 from j39plan.fleet.drives import Deviation, Drive
-from j39plan.fleet.signals import Code, Spread
+from j39plan.fleet.signals import CodeOfUnit, Spread
 from j39plan.fleet.vehicles import vehicles_of
 from j39plan.log.checks.deviations import KINDS, is_duration
 from j39plan.plan.tables import Flow, Tables, Unit
@@ -163,7 +163,7 @@ class Fleet:
 
     def codes(self) -> Iterator[dict[str, Any]]:
         """A row a trouble code of a unit: how often it came, in how many logs and vehicles, and where and when first and last."""
-        found: dict[tuple[int, int, str, str], list[tuple[str, Code]]] = {}
+        found: dict[tuple[int, int, str, str], list[tuple[str, CodeOfUnit]]] = {}
         for drive in self.drives:
             for code in drive["codes"]:
                 found.setdefault(code[:4], []).append((drive["log"], code))

@@ -12,7 +12,7 @@ import matplotlib
 from matplotlib.axes import Axes
 from matplotlib.figure import Figure
 
-from j39plan.log.curves import Curve, Held
+from j39plan.log.curves import Curve, AddressSpan
 from j39plan.log.readings import Column
 
 matplotlib.use("Agg")
@@ -65,7 +65,7 @@ class Window:
 
 
 @dataclass(frozen=True)
-class Drawn:
+class SignalPlot:
     """What is drawn of a signal: its unit of measurement, its curves, and the names of its values."""
 
     unit: str
@@ -177,7 +177,7 @@ def draw_curve(axes: Axes, curve: Curve, window: Window, colours: Colours) -> se
     return {curve.values[at] for at in seen if not math.isnan(curve.values[at])}
 
 
-def draw_signal(axes: Axes, column: Column, drawn: Drawn, window: Window, colours: Colours) -> None:
+def draw_signal(axes: Axes, column: Column, drawn: SignalPlot, window: Window, colours: Colours) -> None:
     """A signal as each of its senders sent it."""
     axes.set_title(".".join(column), loc="left", fontsize=10)
     axes.set_ylabel(drawn.unit, fontsize=9)
@@ -192,9 +192,9 @@ def draw_signal(axes: Axes, column: Column, drawn: Drawn, window: Window, colour
         axes.text(0.5, 0.5, "not in this part of the log" if drawn.curves else "not in the log", transform=axes.transAxes, ha="center", va="center")
 
 
-def merged(held: list[Held], width: float) -> list[tuple[Held, int]]:
+def merged(held: list[AddressSpan], width: float) -> list[tuple[AddressSpan, int]]:
     """What is drawn of held addresses, each with of how many: of several claims that follow one another in less than a column one."""
-    drawn: list[tuple[Held, int]] = []
+    drawn: list[tuple[AddressSpan, int]] = []
     for part in held:
         last, count = drawn[-1] if drawn else (None, 0)
         is_narrow = last is not None and (count > 1 or last.end - last.start < width) and part.end - part.start < width
@@ -205,7 +205,7 @@ def merged(held: list[Held], width: float) -> list[tuple[Held, int]]:
     return drawn
 
 
-def draw_holder(axes: Axes, part: Held, count: int, row: int, window: Window, colours: Colours) -> None:
+def draw_holder(axes: Axes, part: AddressSpan, count: int, row: int, window: Window, colours: Colours) -> None:
     """The box of who held an address: in the colour of the unit, dashed where it is only planned there, hatched where nobody planned it."""
     start, end, whole = max(part.start, window.begin), min(part.end, window.end), window.end - window.begin
     width = max(end - start, whole * 0.003)
@@ -223,7 +223,7 @@ def draw_holder(axes: Axes, part: Held, count: int, row: int, window: Window, co
                       annotation_clip=False)
 
 
-def draw_claims(axes: Axes, part: Held, row: int, window: Window) -> None:
+def draw_claims(axes: Axes, part: AddressSpan, row: int, window: Window) -> None:
     """A stroke for each claim of an address that its holder had; of those in one column one."""
     shown = (time for time in part.again if window.has(time))
     times = [next(some) for _, some in groupby(shown, lambda time: time // window.column)]
@@ -231,7 +231,7 @@ def draw_claims(axes: Axes, part: Held, row: int, window: Window) -> None:
         axes.vlines([window.on_axis(time) for time in times], row - 0.35, row + 0.35, colors="#1b1b1b", linewidth=1.5)
 
 
-def draw_addresses(axes: Axes, held: list[Held], window: Window, colours: Colours) -> None:
+def draw_addresses(axes: Axes, held: list[AddressSpan], window: Window, colours: Colours) -> None:
     """A row an address, with who held it; what was never claimed is dashed."""
     axes.set_title("Who holds which address (dashed: planned there, not claimed so far; hatched: not planned; stroke: claimed again)", loc="left", fontsize=10)
     rows = {address: row for row, address in enumerate(sorted({part.address for part in held}))}
@@ -244,7 +244,7 @@ def draw_addresses(axes: Axes, held: list[Held], window: Window, colours: Colour
     axes.set_ylim(max(len(rows), 1) - 0.5, -0.5)
 
 
-def figure_of(signals: Mapping[Column, Drawn], held: list[Held] | None, title: str, counted: str, window: Window) -> Figure:
+def figure_of(signals: Mapping[Column, SignalPlot], held: list[AddressSpan] | None, title: str, counted: str, window: Window) -> Figure:
     """The picture: a part for each signal, with its unit of measurement, and one for the addresses, if they are given. What is counted
     stands below it."""
     heights = [HEIGHT] * len(signals)

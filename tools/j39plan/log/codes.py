@@ -87,7 +87,7 @@ def lamp_signals(group: Group) -> dict[str, str]:
     return found
 
 
-class Sent:
+class UnitCodes:
     """The codes that one unit sends in one group."""
 
     def __init__(self, unit: str, group: Group, period: int | None) -> None:
@@ -160,7 +160,7 @@ class Codes:
     def __init__(self, tables: Tables) -> None:
         self._groups = {group.label: group for group in groups_of(tables)}
         self._flows = tables.flows
-        self._sent: dict[tuple[str, str], Sent] = {}
+        self._sent: dict[tuple[str, str], UnitCodes] = {}
         self._clearings: list[Clearing] = []
 
     def episodes(self, reports: Iterable[Report], clock: Clock, ended: Callable[[], int | None]) -> list[Episode]:
@@ -183,13 +183,13 @@ class Codes:
             found += map(self._with_clearing, sent.finish(at))
         return sorted(found, key=lambda episode: (episode.came.line, episode.unit, str(episode.key)))
 
-    def _of(self, message: Message) -> Sent:
+    def _of(self, message: Message) -> UnitCodes:
         """What its sender sends in a message's group."""
         key = message.sender.shown, message.group
         if key not in self._sent:
             group, flow = self._groups[message.group], self._flows[message.flow - 1] if message.flow else None
             period = flow.period if flow and not flow.on_request else None
-            self._sent[key] = Sent(key[0], group, period or (DM1_PERIOD if group.pgn == ACTIVE else None))
+            self._sent[key] = UnitCodes(key[0], group, period or (DM1_PERIOD if group.pgn == ACTIVE else None))
         return self._sent[key]
 
     def _with_clearing(self, episode: Episode) -> Episode:

@@ -7,7 +7,7 @@ from dataclasses import dataclass, field
 from typing import NamedTuple
 
 from j39plan.log.clock import SECOND, Clock
-from j39plan.log.readings import Reading, Wanted
+from j39plan.log.readings import Reading, ReadingChoice
 from j39plan.log.reports import Claim, Message, Report, Who
 from j39plan.plan.tables import Unit
 
@@ -36,7 +36,7 @@ class Curve:
             self.states.setdefault(state, array("d")).append(time)
 
 
-def curves_of(reports: Iterable[Report], wanted: Wanted[tuple[str, Reading]], clock: Clock) -> list[Curve]:
+def curves_of(reports: Iterable[Report], wanted: ReadingChoice[tuple[str, Reading]], clock: Clock) -> list[Curve]:
     """The curves of a log, by their first points; the clock has seen each report, and none behind it."""
     curves: dict[tuple[str, str, str], Curve] = {}
     for message in reports:
@@ -52,7 +52,7 @@ def curves_of(reports: Iterable[Report], wanted: Wanted[tuple[str, Reading]], cl
     return list(curves.values())
 
 
-class Held(NamedTuple):
+class AddressSpan(NamedTuple):
     """That a unit, by its label or `#` and its NAME, held an address from one time to another; whether it claimed it, or is only planned
     there; and when it claimed it again, since it restarted or was asked."""
 
@@ -96,7 +96,7 @@ class Timeline:
         self._at: dict[Box, int] = {}  # where each is that claimed an address
         self._open: dict[int, tuple[Box, float, bool]] = {}
         self._again: dict[int, list[float]] = {}  # of each address, when its holder claimed it again
-        self._held: list[Held] = []
+        self._held: list[AddressSpan] = []
         for address in self._planned:
             self._leave(address, -math.inf)
 
@@ -118,7 +118,7 @@ class Timeline:
         end = self._seen.last if self.clock.shift else last / SECOND
         return min(first / SECOND, self._seen.first), max(end, self._seen.last)
 
-    def held(self) -> list[Held]:
+    def held(self) -> list[AddressSpan]:
         """Who held which address, to the end of the log."""
         first, last = self._seen.first, self._seen.last
         if not math.isfinite(first):
@@ -153,4 +153,4 @@ class Timeline:
     def _close(self, address: int, time: float) -> None:
         if address in self._open:
             (holder, _), start, is_claimed = self._open.pop(address)
-            self._held.append(Held(address, holder, start, time, is_claimed, tuple(self._again.pop(address, ()))))
+            self._held.append(AddressSpan(address, holder, start, time, is_claimed, tuple(self._again.pop(address, ()))))

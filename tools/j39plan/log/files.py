@@ -38,7 +38,7 @@ LINE_MOST = 8000
 NAMED = 8
 
 
-class Unpacked(gzip.GzipFile):
+class PackedFile(gzip.GzipFile):
     """What gzip has packed in a file, which may be damaged."""
 
     def readinto(self, buffer: "memoryview | bytearray") -> int:  # type: ignore[override]
@@ -50,7 +50,7 @@ class Unpacked(gzip.GzipFile):
 
 
 # A file as it is read: itself, or what gzip has packed in it.
-Opened = io.FileIO | Unpacked
+Opened = io.FileIO | PackedFile
 
 
 def is_live(file: Opened) -> bool:
@@ -60,7 +60,7 @@ def is_live(file: Opened) -> bool:
 
 def opened(name: str) -> Opened:
     """A file of a log, unpacked where gzip has packed it. A pipe is read as it is."""
-    return Unpacked(name, "rb") if is_packed(name) else open(program.place_of(name), "rb", buffering=0)
+    return PackedFile(name, "rb") if is_packed(name) else open(program.place_of(name), "rb", buffering=0)
 
 
 def is_packed(name: str) -> bool:
@@ -142,7 +142,7 @@ class Log(io.RawIOBase):
     @property
     def is_unpacked(self) -> bool:
         """Whether a file of it is unpacked as it is read, so that it isn't read itself."""
-        return any(isinstance(file, Unpacked) for file in self.files)
+        return any(isinstance(file, PackedFile) for file in self.files)
 
     def is_packed(self) -> bool:
         """Whether the first file is packed by gzip, and wasn't unpacked."""

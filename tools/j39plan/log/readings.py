@@ -95,7 +95,7 @@ class Choice:
             raise program.Refused(program.UNREADABLE, f"no group, signal or log is called {name}{hint}")
 
 
-class Known(dict[str, Made | None]):
+class ReadingCache(dict[str, Made | None]):
     """What is made of lines that `follow` writes below messages of a group, `  LABEL SAID`, None of a signal that isn't wanted. They are kept, since
     signals repeat themselves."""
 
@@ -114,11 +114,11 @@ class Known(dict[str, Made | None]):
         return made
 
 
-class Wanted(Generic[Made]):
+class ReadingChoice(Generic[Made]):
     """What is made of the readings that are wanted."""
 
     def __init__(self, choice: Choice, make: Callable[[Column, str, Reading], Made]) -> None:
-        self._known = {group: Known(group, choice, make, self._keep) for group, _ in choice.columns}
+        self._known = {group: ReadingCache(group, choice, make, self._keep) for group, _ in choice.columns}
         self._count = 0
 
     def of(self, group: str, lines: Iterable[str]) -> Iterator[Made]:
@@ -126,7 +126,7 @@ class Wanted(Generic[Made]):
         known = self._known.get(group)
         return iter(()) if known is None else filter(None, map(known.__getitem__, lines))
 
-    def known(self, group: str) -> Known[Made] | None:
+    def known(self, group: str) -> ReadingCache[Made] | None:
         """What is made of lines below messages of a group, None where nothing of it is wanted."""
         return self._known.get(group)
 

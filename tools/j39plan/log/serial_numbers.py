@@ -22,7 +22,7 @@ CLAIM = re.compile(rb"[Ee][Ee][0-9A-Fa-f]{4}#[0-9A-Fa-f]{16}")
 PIECE = 1 << 20
 
 
-class Renumbered(NamedTuple):
+class OtherBox(NamedTuple):
     """A unit whose box has another serial number in a log than in the plan."""
 
     label: str
@@ -72,21 +72,21 @@ def names_in(files: Iterable[str], interface: str | None) -> list[int]:
     return list(found)
 
 
-def renumbered(units: list[Unit], files: Iterable[str], interface: str | None) -> dict[int, Renumbered]:
+def renumbered(units: list[Unit], files: Iterable[str], interface: str | None) -> dict[int, OtherBox]:
     """The units, counted from 1, whose numbers no NAME has that claims in a log, though one of their kind does, which no other unit is of."""
     kinds = Counter(unit.kind for unit in units)
     sought = {unit.kind: (at, unit) for at, unit in enumerate(units, 1) if unit.identity is not None and unit.claims and kinds[unit.kind] == 1}
     names = names_in(files, interface) if sought else []
-    found: dict[int, Renumbered] = {}
+    found: dict[int, OtherBox] = {}
     for name in names:
         at, unit = sought.get(kind_of(name), (0, None))
         if unit and unit.identity is not None and unit.number not in names:
-            found.setdefault(at, Renumbered(unit.label, identity_in(name), unit.identity))
+            found.setdefault(at, OtherBox(unit.label, identity_in(name), unit.identity))
     return found
 
 
 @contextlib.contextmanager
-def by_kind(plan: str, tables: Tables, files: Iterable[str], interface: str | None) -> Iterator[tuple[str, Tables, list[Renumbered]]]:
+def by_kind(plan: str, tables: Tables, files: Iterable[str], interface: str | None) -> Iterator[tuple[str, Tables, list[OtherBox]]]:
     """The name of a plan by which a log is followed, its tables, and the units whose boxes have other serial numbers in it: there they are of any
     number, so that each is known by its kind. Of a log that is still to come no file is named: it is followed by the plan as it is."""
     found = renumbered(tables.units, files, interface)
@@ -97,7 +97,7 @@ def by_kind(plan: str, tables: Tables, files: Iterable[str], interface: str | No
         yield other, parts, list(found.values()) if other != plan else []
 
 
-def say_numbers(others: Iterable[Renumbered]) -> None:
+def say_numbers(others: Iterable[OtherBox]) -> None:
     """Says which boxes have other serial numbers than the plan's."""
     for other in others:
         program.say(other.text)

@@ -30,7 +30,7 @@ CLAIMS = b"EE"
 BY_LOG = "log"
 
 
-class Seen(NamedTuple):
+class Claimants(NamedTuple):
     """Who claims in a log: units by their labels and others by their NAMEs; the units that claim in no log of it, where it shows who is there, else None; and
     for each address that sends and is never claimed the units, of which one does."""
 
@@ -73,7 +73,7 @@ def unclaimed_in(files: Iterable[str], interface: str | None) -> list[int]:
     return sorted(int(sender, 16) for sender in senders - claimed)
 
 
-def seen_in(units: list[Unit], files: list[str], interface: str | None) -> tuple[Seen, list[list[Unit]]]:
+def seen_in(units: list[Unit], files: list[str], interface: str | None) -> tuple[Claimants, list[list[Unit]]]:
     """Who claims or sends in a log, and of each NAME that units of the line have these, those of its number, else those of its kind, and of each address that
     nobody claims."""
     found, others = list[list[Unit]](), list[str]()
@@ -89,10 +89,10 @@ def seen_in(units: list[Unit], files: list[str], interface: str | None) -> tuple
     sends = [own for own in at if own and not heard.intersection(unit.label for unit in own)]
     there = heard.union(unit.label for own in sends for unit in own)
     silent = [unit.label for unit in units if unit.claims and unit.label not in there] if shows_all(files) else None
-    return Seen([unit.label for unit in units if unit.label in heard], others, silent, [[unit.label for unit in own] for own in sends]), found + sends
+    return Claimants([unit.label for unit in units if unit.label in heard], others, silent, [[unit.label for unit in own] for own in sends]), found + sends
 
 
-def possible_in(line: Line, units: list[Unit], seen: Seen, found: list[list[Unit]]) -> Possible:
+def possible_in(line: Line, units: list[Unit], seen: Claimants, found: list[list[Unit]]) -> Possible:
     """Which vehicles a log can be of: those that have a unit of each NAME and sender, and none that is silent where it shows who is there."""
     lists = {unit.label: line.named.get(("unit", number), []) for number, unit in enumerate(units, 1)}
     wanted = [[[lists[unit.label]] for unit in own] for own in found]
@@ -104,7 +104,7 @@ def possible_in(line: Line, units: list[Unit], seen: Seen, found: list[list[Unit
     return Possible(choices, [label for choice in line.choices for label in choice if label in first])
 
 
-def possible_by(plan: str, name: str, files: list[str], interface: str | None) -> tuple[Seen, Possible]:
+def possible_by(plan: str, name: str, files: list[str], interface: str | None) -> tuple[Claimants, Possible]:
     """Who is seen in a log, and of which vehicles of a line it can be; the plan's file has this name."""
     line = line_of(plan)
     if not line.choices:

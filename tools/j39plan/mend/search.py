@@ -27,7 +27,7 @@ LAST = ("F10", "F11", "F25")
 BROUGHT = 2
 
 
-class Tried(NamedTuple):
+class FindingMends(NamedTuple):
     """A finding with its line in the plan as it was and a hint, its mends, each of which takes it away alone, those that do harm last, and what was tried in
     vain. `by` is the finding with whose mend it went; `left` is what is asked first, or left to be written, each with its word."""
 
@@ -40,11 +40,11 @@ class Tried(NamedTuple):
     left: tuple[tuple[str, str], ...] = ()
 
 
-class Mended(NamedTuple):
+class MendedPlan(NamedTuple):
     """A plan with its first mends, what was tried of each finding, and what `check` answers now."""
 
     text: str
-    tried: list[Tried]
+    tried: list[FindingMends]
     answer: str
     status: int
 
@@ -106,15 +106,15 @@ def next_of(draft: Draft, given_up: set[str]) -> str | None:
     return first[0] if first else left[-1] if left else None
 
 
-def mended(plan: str, judge: Judge) -> Mended:
+def mended(plan: str, judge: Judge) -> MendedPlan:
     """A plan with the first mend of each finding that has one."""
     draft = first = Draft(plan, judge)
     given_up: set[str] = set()
-    tried: dict[str, Tried] = {}
+    tried: dict[str, FindingMends] = {}
     while (text := next_of(draft, given_up)) is not None:
         judge.about = f"; {text}"
         mends, in_vain, left = mends_of(draft, text)
-        tried[text] = Tried(text, *_placed(first if text in first.findings else draft, text), mends, in_vain, left=left)
+        tried[text] = FindingMends(text, *_placed(first if text in first.findings else draft, text), mends, in_vain, left=left)
         if not mends or mends[0].is_harmful:
             given_up.add(text)
             continue
@@ -122,12 +122,12 @@ def mended(plan: str, judge: Judge) -> Mended:
         draft = Draft(draft.with_change(change), judge)
         for other in _gone(before, draft, change):
             if other in first.findings:
-                tried.setdefault(other, Tried(other, *_placed(first, other), [], [], text))
+                tried.setdefault(other, FindingMends(other, *_placed(first, other), [], [], text))
         if any(place[0] in NUMBERED for place in change.removed):
             given_up.update(other for other in draft.findings if other.split()[0] not in LAST)
     status, answer = judge.answer("check", draft.text)
     order = {text: number for number, text in enumerate(first.findings)}
-    return Mended(draft.text, sorted(tried.values(), key=lambda one: order.get(one.text, len(order))), answer, status)
+    return MendedPlan(draft.text, sorted(tried.values(), key=lambda one: order.get(one.text, len(order))), answer, status)
 
 
 def _gone(before: Draft, after: Draft, change: Change) -> Iterator[str]:

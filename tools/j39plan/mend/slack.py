@@ -24,7 +24,7 @@ DISTANCES = (10, 100, 1000)
 USUAL = (3, 6)
 
 
-class Left(NamedTuple):
+class FlowSlack(NamedTuple):
     """A flow by its number and in words, within how many us it is on the bus, how many it has, and what is left of them; None where no bound is
     shown."""
 
@@ -47,14 +47,14 @@ class Room(NamedTuple):
 class Slack(NamedTuple):
     """What flows have left, and what the bus takes."""
 
-    flows: list[Left]
+    flows: list[FlowSlack]
     further: list[Room]
 
 
-def left_of(flow: Flow, delay: Delay) -> Left:
+def left_of(flow: Flow, delay: Delay) -> FlowSlack:
     """What a flow has left."""
     left = delay.limit - delay.within if delay.limit is not None and delay.within is not None else None
-    return Left(flow.number, flow.what, delay.within, delay.limit, left)
+    return FlowSlack(flow.number, flow.what, delay.within, delay.limit, left)
 
 
 class Guest:
@@ -134,6 +134,6 @@ def slack_object(slack: Slack) -> dict[str, list[dict[str, object]]]:
     return {"flows": [left._asdict() for left in slack.flows], "further": [room._asdict() for room in slack.further]}
 
 
-def share_of(left: Left) -> str:
+def share_of(left: FlowSlack) -> str:
     """What part of its time a flow has left."""
     return "-" if left.left is None or left.limit is None else f"{100 * left.left // left.limit} %"

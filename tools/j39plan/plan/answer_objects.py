@@ -3,7 +3,7 @@
 from typing import Any
 
 from j39plan.plan.answer_grammar import Line, lines_of
-from j39plan.plan.answer_places import Placed
+from j39plan.plan.answer_places import PlacedPart
 
 Object = dict[str, Any]
 
@@ -24,7 +24,7 @@ def line_object(line: Line) -> Object:
     return found
 
 
-def placed_object(part: Placed) -> Object:
+def placed_object(part: PlacedPart) -> Object:
     """A finding or a refusal, with its line of the file, a hint and the steps of a run, where there are some."""
     line, *steps = lines_of("\n".join([part.answer, *part.below]))
     found = {**line_object(line), "text": part.answer, "line": part.line, "hint": part.hint, "steps": [step.word("step") for step in steps],
@@ -32,7 +32,7 @@ def placed_object(part: Placed) -> Object:
     return {key: said for key, said in found.items() if said not in ("", None, [])}
 
 
-def answer_object(plan: str, status: int, parts: list[Placed]) -> Object:
+def answer_object(plan: str, status: int, parts: list[PlacedPart]) -> Object:
     """What `addresses` or `load` answers of a plan: its units, or its flows, its needs and the load; the findings, where these are its answer;
     and of a plan that is refused why."""
     found: Object = {"plan": plan, "status": status}
@@ -49,7 +49,7 @@ def answer_object(plan: str, status: int, parts: list[Placed]) -> Object:
     return found
 
 
-def check_object(plan: str, status: int, parts: list[Placed], hints: list[Placed] | None = None, further: list[Placed] | None = None) -> Object:
+def check_object(plan: str, status: int, parts: list[PlacedPart], hints: list[PlacedPart] | None = None, further: list[PlacedPart] | None = None) -> Object:
     """What `check` answers of a plan, and hints that are no findings where they were asked for. Of a plan that can't be read there are neither, but
     further faults."""
     found = answer_object(plan, status, parts)

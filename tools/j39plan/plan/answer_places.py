@@ -214,7 +214,7 @@ def parted(answer: str) -> list[list[str]]:
     return parts
 
 
-class Placed(NamedTuple):
+class PlacedPart(NamedTuple):
     """A part of an answer: its line of the file, None where it says nothing of one, what the program wrote, a hint, and the lines that
     belong to it; and of a plan of a line of vehicles the lists of alternatives by which a finding goes."""
 
@@ -235,7 +235,7 @@ class Placed(NamedTuple):
         return [*self.below, *self.withs]
 
 
-def placed(data: bytes, answer: str) -> Iterator[Placed]:
+def placed(data: bytes, answer: str) -> Iterator[PlacedPart]:
     """The answer's parts; those that say what is wrong with their place in the file."""
     plan = Source(data.decode(errors="replace"))
     for line, *below in parted(answer):
@@ -244,6 +244,6 @@ def placed(data: bytes, answer: str) -> Iterator[Placed]:
         elif re.match(r"F\d+ ", line):
             at, hint = finding(plan, line)
         else:
-            yield Placed(None, line, "", below)
+            yield PlacedPart(None, line, "", below)
             continue
-        yield Placed(at, line, hint or "", below, variants.withs(plan, line_of(line)) if plan["choice"] and not line.startswith("refused ") else [])
+        yield PlacedPart(at, line, hint or "", below, variants.withs(plan, line_of(line)) if plan["choice"] and not line.startswith("refused ") else [])

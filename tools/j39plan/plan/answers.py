@@ -3,6 +3,7 @@
 from collections.abc import Iterator
 from typing import NamedTuple
 
+from j39plan import program
 from j39plan.plan.answer_grammar import Line, line_of, lines_of
 from j39plan.plan.answer_places import finding, parted
 from j39plan.plan.parts import Source
@@ -57,6 +58,19 @@ class Load(NamedTuple):
     delays: list[Delay]
     taken: tuple[int, int] | None
     ages: list[Age] = []
+
+
+class PlanAnswer(NamedTuple):
+    """What the program answers of a plan that can be read: where its units stand, its load, None where `load` says nothing, and its findings."""
+
+    stands: dict[str, Stand]
+    load: Load | None
+    found: list[Finding] = []
+
+    @classmethod
+    def of(cls, plan: str, found: list[Finding]) -> "PlanAnswer":
+        """The answer of a plan's file with these findings."""
+        return cls(stands(program.call(["addresses", "--", plan])[1]), load_of(program.call(["load", "--", plan])[1]), found)
 
 
 def findings(plan: Source, answer: str) -> Iterator[Finding]:

@@ -10,7 +10,7 @@ from collections.abc import Iterable, Iterator
 from typing import NamedTuple
 
 from j39plan.plan import scales
-from j39plan.plan.differences import Answers, Matched, inside_pairs, is_too_old, shown_age
+from j39plan.plan.differences import AnswerLines, PlanPair, inside_pairs, is_too_old, shown_age
 from j39plan.plan.joining import may_choose
 from j39plan.plan.parts import Part, spelled
 
@@ -156,7 +156,7 @@ class Layouts:
 class Breaks:
     """What breaks, flow by flow of the old plan; what becomes too old only where the answers on both are known."""
 
-    def __init__(self, matched: Matched, old: Answers | None = None, new: Answers | None = None) -> None:
+    def __init__(self, matched: PlanPair, old: AnswerLines | None = None, new: AnswerLines | None = None) -> None:
         self._matched, self._layouts, self._answers = matched, Layouts(), (old, new)
         self._units = {old.label: new for old, new in matched.units if old is not None}
         self._groups = {old.label: new for old, new in matched.groups if old is not None}

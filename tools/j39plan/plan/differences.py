@@ -99,7 +99,7 @@ def alternatives_of(part: Part) -> Hashable:
     return tuple(frozenset(map(str, part.values(key))) for key in ("of", "but", "with"))
 
 
-class Matched:
+class PlanPair:
     """Two plans, and which of their tables are the same ones: units by label, else by NAME, else by all of it but the number, else
     by the address, where neither may choose another one; groups by label, else by their number;
     flows and others by what they name, and of a line of vehicles those first that are there with the same alternatives."""
@@ -185,7 +185,7 @@ def of_groups(old: Part, new: Part) -> Iterator[Change]:
                 yield from of_signals(what, before, now) if table == "signal" else of_keys(what, before, now)
 
 
-def of_tables(matched: Matched) -> Iterator[Change]:
+def of_tables(matched: PlanPair) -> Iterator[Change]:
     """How units, groups, flows and others differ, in this order."""
     for pairs in (matched.units, matched.groups, *matched.others.values()):
         for old, new in pairs:
@@ -219,7 +219,7 @@ def shown_age(said: str) -> str:
     return f"not shown young enough, {said.removeprefix('old ')}" if said.startswith("old of ") else f"{said.removeprefix('old ')}, too old"
 
 
-class Answers:
+class AnswerLines:
     """What the program answers about the plan in a file: where units stand, and the load."""
 
     def __init__(self, source: Source, plan: str) -> None:
@@ -229,7 +229,7 @@ class Answers:
         self.delays = told_of(source, load) if self.load else {}
 
 
-def of_answers(matched: Matched, old: Answers, new: Answers) -> Iterator[Change]:
+def of_answers(matched: PlanPair, old: AnswerLines, new: AnswerLines) -> Iterator[Change]:
     """How what the program says of two plans differs: who stays at its address, the delays of flows, the load."""
     for before, now in matched.units:
         if before is not None and now is not None:
@@ -248,7 +248,7 @@ def of_answers(matched: Matched, old: Answers, new: Answers) -> Iterator[Change]
         yield Change("bus", "load", old.load, new.load, None, None)
 
 
-def changes_of(matched: Matched, old: Answers, new: Answers) -> Iterator[Change]:
+def changes_of(matched: PlanPair, old: AnswerLines, new: AnswerLines) -> Iterator[Change]:
     """All that is otherwise."""
     yield from of_keys("plan", matched.old.top, matched.new.top)
     yield from of_tables(matched)

@@ -8,7 +8,7 @@ import re
 from collections.abc import Callable, Container, Iterator
 from typing import Any, NamedTuple
 
-from j39plan.plan.answer_places import Placed
+from j39plan.plan.answer_places import PlacedPart
 from j39plan.plan.hints.refusals import missing_key, unlisted_key, value_fault
 from j39plan.plan.hints.text_faults import Told, faulty_statement, is_no_toml, statement_fault
 from j39plan.plan.hints.wanted import listed
@@ -42,7 +42,7 @@ class Fault(NamedTuple):
 BySchema = Callable[[str, set[str]], list[Told]]
 
 
-def further_faults(data: bytes, parts: list[Placed], by_schema: BySchema | None = None) -> list[Placed]:
+def further_faults(data: bytes, parts: list[PlacedPart], by_schema: BySchema | None = None) -> list[PlacedPart]:
     """What else is wrong in a file that `check` answered so, in the order of its lines; by the schema of plans, where no other one is given."""
     first = next((part for part in parts if part.answer.startswith("refused ")), None)
     if first is None or first.answer.startswith("refused plan ") or first.hint.startswith(OTHER_KIND):
@@ -56,7 +56,7 @@ def further_faults(data: bytes, parts: list[Placed], by_schema: BySchema | None 
         told += (by_schema or by_plan_schema)(text, left_out)
     others = {subject(line, hint): (line, hint) for line, hint in reversed(told) if hint}
     others.pop(subject(first.line or 1, first.hint), None)
-    return [Placed(line, f"also {hint}", "", []) for line, hint in sorted(others.values())]
+    return [PlacedPart(line, f"also {hint}", "", []) for line, hint in sorted(others.values())]
 
 
 def subject(line: int, hint: str) -> tuple[int, str]:

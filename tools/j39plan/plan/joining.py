@@ -23,7 +23,7 @@ OF_LINES = ("choice", "never")
 TOLD_BY = {"group": "group", "from": "unit", "to": "unit", "unit": "unit", "signal": ""}
 
 
-class Told(NamedTuple):
+class Remark(NamedTuple):
     """Something that is to be said of the files: where it stands, and what it is."""
 
     at: str
@@ -40,7 +40,7 @@ def several(value: Value) -> list[Value]:
     return value if isinstance(value, list) else []
 
 
-class Merged:
+class JoinedTable:
     """A table of the joined plan: where it is from, its keys, each with the part that says it, and the tables in it."""
 
     def __init__(self, first: Part, label: str = "") -> None:
@@ -50,7 +50,7 @@ class Merged:
         if label:
             self.values["label"] = label
         self.remarks: dict[str, list[str]] = {}
-        self.inside: dict[str, list[Merged]] = {}
+        self.inside: dict[str, list[JoinedTable]] = {}
 
     @property
     def label(self) -> str:
@@ -97,13 +97,13 @@ class Join:
 
     def __init__(self, sources: list[Source], same: dict[str, str] | None = None) -> None:
         self.sources, self._same = sources, same or {}
-        self.contradictions: list[Told] = []
-        self.notes: list[Told] = []
-        self.top = Merged(sources[0].top)
-        self.arrays: dict[str, list[Merged]] = {array: [] for array in (*OF_LINES, *(array for array in arrays() if array not in OF_LINES))}
+        self.contradictions: list[Remark] = []
+        self.notes: list[Remark] = []
+        self.top = JoinedTable(sources[0].top)
+        self.arrays: dict[str, list[JoinedTable]] = {array: [] for array in (*OF_LINES, *(array for array in arrays() if array not in OF_LINES))}
         self._labels = {array: Labels() for array in ("unit", "group")}
         self._called: dict[tuple[Source, str, str], str] = {}  # of a file, an array and a label there: the label here
-        self._told: dict[tuple[object, ...], Merged] = {}  # flows and the like by what tells them apart
+        self._told: dict[tuple[object, ...], JoinedTable] = {}  # flows and the like by what tells them apart
         for number, source in enumerate(sources):
             self._top(source, number)
             for choice in source["choice"]:
@@ -121,14 +121,14 @@ class Join:
         self._opposite_ways()
 
     def _note(self, part: Part, text: str, key: str = "") -> None:
-        self.notes.append(Told(part.at(key), text))
+        self.notes.append(Remark(part.at(key), text))
 
-    def _contradict(self, merged: Merged, part: Part, key: str, text: str) -> None:
+    def _contradict(self, merged: JoinedTable, part: Part, key: str, text: str) -> None:
         """Says that a part contradicts an earlier one."""
-        self.contradictions.append(Told(part.at(key), text))
+        self.contradictions.append(Remark(part.at(key), text))
         merged.remark(key if key in merged.values else next(iter(merged.values), ""), f"{part.at(key)}: {text}")
 
-    def _keys(self, merged: Merged, part: Part, what: str, skipped: Iterable[str] = ()) -> None:
+    def _keys(self, merged: JoinedTable, part: Part, what: str, skipped: Iterable[str] = ()) -> None:
         """Joins the keys of a part with those that are there."""
         for key in dict.fromkeys([*keys_of(part.table), *merged.values, *part.said]):
             if key in skipped or key == "label" or key in told_by(part) or key in part.inside or key in merged.inside:
@@ -153,7 +153,7 @@ class Join:
                     self._contradict(merged, part, key, f"{what}: {inner} = {said[0]}, and {said[1]} at {by.at(key)}")
 
     @staticmethod
-    def _values(merged: Merged, part: Part) -> Value:
+    def _values(merged: JoinedTable, part: Part) -> Value:
         """What a part calls raw numbers, with the names of those that it doesn't name; the joined table takes the names that it lacks."""
         here, there = merged.values.get("values"), part["values"]
         if not isinstance(here, dict) or not isinstance(there, dict):
@@ -161,7 +161,7 @@ class Join:
         merged.values["values"] = in_order({**there, **here})
         return in_order({**here, **there})
 
-    def _joined(self, merged: Merged, part: Part, what: str, skipped: Iterable[str] = ()) -> None:
+    def _joined(self, merged: JoinedTable, part: Part, what: str, skipped: Iterable[str] = ()) -> None:
         """Joins a part with the table that it is of."""
         self._keys(merged, part, what, skipped)
         merged.origins.append(part)
@@ -200,7 +200,7 @@ class Join:
         labels = set(choice.values("of"))
         met = next((merged for merged in self.arrays["choice"] if self._is_new(merged, choice) and not labels.isdisjoint(several(merged.values["of"]))), None)
         if met is None:
-            self.arrays["choice"].append(Merged(choice))
+            self.arrays["choice"].append(JoinedTable(choice))
         elif labels == set(several(met.values["of"])):
             met.origins.append(choice)
         else:
@@ -211,11 +211,11 @@ class Join:
         lists = [set(never.values(key)) for key in ("of", "but")]
         same = next((merged for merged in self.arrays["never"] if [set(several(merged.values.get(key))) for key in ("of", "but")] == lists), None)
         if same is None:
-            self.arrays["never"].append(Merged(never))
+            self.arrays["never"].append(JoinedTable(never))
         else:
             same.origins.append(never)
 
-    def _are_alternatives(self, merged: Merged, part: Part) -> bool:
+    def _are_alternatives(self, merged: JoinedTable, part: Part) -> bool:
         """Whether no vehicle has both of two tables, as they go with other alternatives of a choice."""
         lists = several(merged.values.get("with")), part.values("with")
         for choice in self.arrays["choice"]:
@@ -224,20 +224,20 @@ class Join:
                 return True
         return False
 
-    def _is_new(self, merged: Merged, part: Part) -> bool:
+    def _is_new(self, merged: JoinedTable, part: Part) -> bool:
         """Whether a table is of earlier files alone: what one file says twice is for `check` to find."""
         return all(origin.source is not part.source for origin in merged.origins)
 
-    def _call(self, array: str, part: Part, merged: Merged, why: str = "") -> None:
+    def _call(self, array: str, part: Part, merged: JoinedTable, why: str = "") -> None:
         """Notes what a part is called in the joined plan, and why, where that is another label: it is that of an earlier file."""
         self._called.setdefault((part.source, array, part.label), merged.label)
         if part.label != merged.label:
             self._note(part, f"{name_of(part)} is called {merged.label}, {why or f'as at {merged.first.at()}'}", "label")
             merged.remark("label", f"{part.label} in {part.source.name}")
 
-    def _add(self, array: str, part: Part, wanted: str = "") -> Merged:
+    def _add(self, array: str, part: Part, wanted: str = "") -> JoinedTable:
         """A table more, under its label or the wanted one, unless another one has that."""
-        merged = Merged(part, self._labels[array].label(wanted or part.label))
+        merged = JoinedTable(part, self._labels[array].label(wanted or part.label))
         self._call(array, part, merged, "by --same" if merged.label == wanted else "since another one has its label")
         self.arrays[array].append(merged)
         return merged
@@ -265,7 +265,7 @@ class Join:
             self._contradict(taken, unit, "address", f"{text}: --same {taken.label}={unit.label}, if they are one")
         self._add("unit", unit, label)
 
-    def _unit_name(self, here: Merged, unit: Part) -> None:
+    def _unit_name(self, here: JoinedTable, unit: Part) -> None:
         """Joins the NAMEs of a unit. A number stays where each file has one."""
         names = name_in(here), name_in(unit)
         if len([name for name in names if "identity" in name]) == 1:
@@ -288,7 +288,7 @@ class Join:
                 text = f"{name_of(group)}: pgn = {group['pgn']}, and {other.first['pgn']} at {other.first.at('pgn')}"
                 self._contradict(other, group, "pgn", text)
             here = self._add("group", group)
-            here.inside = {key: [Merged(part) for part in parts] for key, parts in group.inside.items()}
+            here.inside = {key: [JoinedTable(part) for part in parts] for key, parts in group.inside.items()}
             return
         self._joined(here, group, name_of(group))
         self._call("group", group, here)
@@ -296,7 +296,7 @@ class Join:
             for part in parts:
                 self._inside(here, key, part)
 
-    def _is_one(self, merged: Merged, group: Part) -> bool:
+    def _is_one(self, merged: JoinedTable, group: Part) -> bool:
         """Whether a group of the same number is this one, of which each is told by its data where they have such keys. A maker's own one is told
         by who sends it to whom, else by label and signals."""
         if merged.first["when"] != group["when"]:
@@ -317,7 +317,7 @@ class Join:
         """What the joined plan calls what a file calls so."""
         return self._called.get((source, array, label), label)
 
-    def _inside(self, group: Merged, key: str, part: Part) -> None:
+    def _inside(self, group: JoinedTable, key: str, part: Part) -> None:
         """Joins a signal or a text of a group: that of its label, else one that lies and means the same, else that of its number."""
         there = group.inside.setdefault(key, [])
         here = next((merged for merged in there if merged.label == part.label), None)
@@ -347,9 +347,9 @@ class Join:
                 text = f"{what} ({scales.shown_place(part)}) shares a bit with {met.label} ({scales.shown_place(met.first)}) at {met.first.at()}"
                 self._contradict(met, part, "byte", text)
                 return
-        there.append(Merged(part))
+        there.append(JoinedTable(part))
 
-    def _signal(self, here: Merged, part: Part, what: str) -> None:
+    def _signal(self, here: JoinedTable, part: Part, what: str) -> None:
         """Joins a signal with that of the same label; its scale counts, and not how it is written down. A unit of measurement that one file lacks
         is that of the other one."""
         unit, by = here.of("unit")
@@ -373,7 +373,7 @@ class Join:
         if here is not None and self._is_new(here, part):
             self._joined(here, part, name_of(part))
             return
-        merged = Merged(part)
+        merged = JoinedTable(part)
         merged.values.update(names)
         self._told.setdefault(key, merged)
         self._told.setdefault(own, merged)
@@ -405,9 +405,9 @@ def names_no_receiver(group: Part) -> bool:
     return is_pdu2(group.number("pgn")) and group.number("length") <= FRAME_BYTES
 
 
-def name_in(unit: Part | Merged) -> dict[str, Value]:
+def name_in(unit: Part | JoinedTable) -> dict[str, Value]:
     """The NAME of a unit with its defaults."""
-    part, said = (unit.first, unit.values["name"]) if isinstance(unit, Merged) else (unit, unit.said["name"])
+    part, said = (unit.first, unit.values["name"]) if isinstance(unit, JoinedTable) else (unit, unit.said["name"])
     name = part["name"]
     assert isinstance(name, dict) and isinstance(said, dict)
     return {key: value for key, value in name.items() if key != "identity" or key in said}
@@ -430,7 +430,7 @@ def places_in(parts: list[Part]) -> str:
     return plain(", ".join(dict.fromkeys(part.at() for part in parts)))
 
 
-def key_lines(merged: Merged) -> Iterator[str]:
+def key_lines(merged: JoinedTable) -> Iterator[str]:
     """The lines of a table's keys, with the comments that their files have behind them, and with what is to be remarked."""
     order = {key: at for at, key in enumerate(keys_of(merged.first.table))}
     for key, value in sorted(merged.values.items(), key=lambda pair: order.get(pair[0], len(order))):
@@ -440,7 +440,7 @@ def key_lines(merged: Merged) -> Iterator[str]:
         yield f"{key} = {spelled(value)}" + (f"  # {'; '.join(comments)}" if comments else "")
 
 
-def comments_of(merged: Merged, key: str) -> list[str]:
+def comments_of(merged: JoinedTable, key: str) -> list[str]:
     """The comments behind a key in its files; of keys on one line the first one has them."""
     found = []
     for part in merged.origins:
@@ -449,7 +449,7 @@ def comments_of(merged: Merged, key: str) -> list[str]:
     return [comment for comment in found if comment]
 
 
-def table_lines(array: str, merged: Merged, around: list[Part]) -> Iterator[str]:
+def table_lines(array: str, merged: JoinedTable, around: list[Part]) -> Iterator[str]:
     """The lines of a table: above it where it is from, unless that is where the table around it is from."""
     yield ""
     for part in merged.origins:

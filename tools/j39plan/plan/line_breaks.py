@@ -8,8 +8,8 @@ from typing import NamedTuple
 
 from j39plan import program
 from j39plan.plan.breaks import Break, Breaks
-from j39plan.plan.differences import Answers, Matched
-from j39plan.plan.line_pairs import Vehicle
+from j39plan.plan.differences import AnswerLines, PlanPair
+from j39plan.plan.line_pairs import VehiclePair
 from j39plan.plan.parts import Source
 from j39plan.plan.variants import text_of_variant
 
@@ -28,14 +28,14 @@ def one_of(source: Source, labels: Sequence[str]) -> Source:
         return Source(text_of_variant(plan, labels, True), source.name)
 
 
-def in_vehicles(old: Source, new: Source, vehicles: Sequence[Vehicle]) -> Iterator[LineBreak]:
+def in_vehicles(old: Source, new: Source, vehicles: Sequence[VehiclePair]) -> Iterator[LineBreak]:
     """What breaks in each of some vehicles."""
     for vehicle in vehicles:
-        matched = Matched(one_of(old, vehicle.old), one_of(new, vehicle.new))
+        matched = PlanPair(one_of(old, vehicle.old), one_of(new, vehicle.new))
         yield from (LineBreak(found, vehicle.old) for found in Breaks(matched).found())
 
 
-def breaks_of(matched: Matched, answers: tuple[Answers, Answers], vehicles: Sequence[Vehicle]) -> list[LineBreak]:
+def breaks_of(matched: PlanPair, answers: tuple[AnswerLines, AnswerLines], vehicles: Sequence[VehiclePair]) -> list[LineBreak]:
     """All that breaks, each once."""
     together: dict[Break, LineBreak] = {}
     receivers: dict[Break, set[str]] = {}

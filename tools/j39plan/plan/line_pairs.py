@@ -13,14 +13,14 @@ from j39plan.plan.variants import Box, Line
 OLD, NEW = "-", "+"
 
 
-class Vehicle(NamedTuple):
+class VehiclePair(NamedTuple):
     """A vehicle that both lines have: its alternatives by the old line and by the new one, in the order of each file."""
 
     old: list[str]
     new: list[str]
 
 
-class Counts(NamedTuple):
+class VehicleCounts(NamedTuple):
     """How many vehicles each line has; how many of the choices that both have only the old line builds, with one of them, and how many only the new one."""
 
     old: int
@@ -100,11 +100,11 @@ class LinePair:
         firsts = [list(shared)[number] for number in order[:self._size]]
         self._olds, self._news = self.old.diagram(firsts), self.new.diagram([pairs[first] for first in firsts])
 
-    def counts(self) -> Counts:
+    def counts(self) -> VehicleCounts:
         """How many vehicles there are."""
         both = self._both.count(self._size)
         gone, built = (one.beyond(self._both, self._size) or [] for one in (self._olds, self._news))
-        return Counts(self._olds.count(), self._news.count(), self._olds.count(self._size) - both, in_order(self.old.line, gone),
+        return VehicleCounts(self._olds.count(), self._news.count(), self._olds.count(self._size) - both, in_order(self.old.line, gone),
                       self._news.count(self._size) - both, in_order(self.new.line, built))
 
     def are_together(self, *labels: str) -> bool:
@@ -114,10 +114,10 @@ class LinePair:
         allowed = self._both.allowed(spelled) if spelled is not None else None
         return allowed is not None and self._both.some(allowed) is not None
 
-    def vehicles(self) -> list[Vehicle]:
+    def vehicles(self) -> list[VehiclePair]:
         """Few vehicles that both lines have, in which each two units are together that can be, and all else that is in such a vehicle is in one."""
         wanted = [allowed for side in (self.old, self.new) for allowed in self._wanted(side)]
-        return [Vehicle(self.old.taken(labels), self.new.taken(labels)) for labels in cover(self._both, [{}, *wanted])]
+        return [VehiclePair(self.old.taken(labels), self.new.taken(labels)) for labels in cover(self._both, [{}, *wanted])]
 
     def _wanted(self, side: Side) -> Iterator[Allowed]:
         """What a vehicle has to take for each two units, and for each other table."""

@@ -8,7 +8,7 @@ from html import escape
 from itertools import groupby
 
 from j39plan.j1939 import NAME_FIELDS
-from j39plan.plan.answers import Age, Delay, Finding, Load, Stand
+from j39plan.plan.answers import Age, Delay, Finding, Load, PlanAnswer, Stand
 from j39plan.plan.bus_shares import Shares, shares_of
 from j39plan.plan.page_style import STYLE
 from j39plan.plan.parts import Source
@@ -391,9 +391,10 @@ def load_section(tables: Tables, load: Load, is_line: bool) -> str:
     return section("load", "Load", parts)
 
 
-def sections_of(title: str, source: Source, tables: Tables, found: list[Finding], stands: dict[str, Stand], load: Load | None) -> dict[str, str]:
+def sections_of(title: str, source: Source, tables: Tables, answer: PlanAnswer) -> dict[str, str]:
     """The sections of a plan by their names; one that says nothing of the bus has no load."""
-    return {"findings": finding_section(escape(title), found), "units": unit_section(source, tables, stands), "flows": flow_section(tables),
+    load = answer.load
+    return {"findings": finding_section(escape(title), answer.found), "units": unit_section(source, tables, answer.stands), "flows": flow_section(tables),
             **({"needs": need_section(tables, load)} if tables.needs else {}),
             **({"requests": request_section(tables)} if tables.requests else {}),
             **({"load": load_section(tables, load, bool(source["choice"]))} if load else {}), "groups": group_section(tables)}
@@ -435,8 +436,8 @@ def document(heading: str, facts: str, sections: dict[str, str], footer: str, st
 """
 
 
-def page(title: str, source: Source, tables: Tables, found: list[Finding], stands: dict[str, Stand], load: Load | None, footer: str, labels: str = "", choices: str = "") -> str:
+def page(title: str, source: Source, tables: Tables, answer: PlanAnswer, footer: str, labels: str = "", choices: str = "") -> str:
     """The whole page, of a line or a vehicle of it with its choices and, as labels, which it is. The title is the name of the plan's file."""
     heading = f"Plan {escape(os.path.basename(title))}" + (f" ({escape(labels)})" if labels else "")
     first = {"choices": choices} if choices else {}
-    return document(heading, counts_of(source, tables, found), {**first, **sections_of(title, source, tables, found, stands, load)}, footer)
+    return document(heading, counts_of(source, tables, answer.found), {**first, **sections_of(title, source, tables, answer)}, footer)

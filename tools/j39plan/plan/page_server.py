@@ -84,7 +84,7 @@ def none_beside() -> list[str]:
     return []
 
 
-class Watched(NamedTuple):
+class WatchedFile(NamedTuple):
     """A file, how its page is drawn, and which other files the page is drawn of, as the file names them."""
 
     file: str
@@ -92,10 +92,10 @@ class Watched(NamedTuple):
     beside: Callable[[], list[str]] = none_beside
 
 
-class Drawn:
+class ServedPage:
     """The page that is served now, and those who wait for the next one."""
 
-    def __init__(self, watched: Watched) -> None:
+    def __init__(self, watched: WatchedFile) -> None:
         self._file, self._draw, self._named = watched
         self._last = EMPTY
         self._state: list[State] = []
@@ -194,7 +194,7 @@ class PageServer(ThreadingHTTPServer):
 
     daemon_threads = True
 
-    def __init__(self, address: str, port: int, drawn: Drawn) -> None:
+    def __init__(self, address: str, port: int, drawn: ServedPage) -> None:
         self.drawn, self._address = drawn, address
         self.address_family = socket.getaddrinfo(address, port, type=socket.SOCK_STREAM)[0][0]
         super().__init__((address, port), Handler)
@@ -212,11 +212,11 @@ class PageServer(ThreadingHTTPServer):
         return host.rpartition(":")[0].strip("[]") in LOOPBACK
 
 
-def serve(watched: Watched, address: str, port: int) -> NoReturn:
+def serve(watched: WatchedFile, address: str, port: int) -> NoReturn:
     """Serves the page of a file until the tool is interrupted."""
     if not stat.S_ISREG(os.stat(watched.file).st_mode):
         raise program.Refused(program.UNREADABLE, f"{watched.file}: only a regular file can be watched")
-    drawn = Drawn(watched)
+    drawn = ServedPage(watched)
     drawn.look()
     with PageServer(address, port, drawn) as server:
         print(server.url, flush=True)

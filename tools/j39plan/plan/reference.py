@@ -11,10 +11,10 @@ from fractions import Fraction
 from typing import TYPE_CHECKING, NamedTuple
 
 from j39plan import program
-from j39plan.dbc.reader import KINDS, Form, load
+from j39plan.dbc.reader import KINDS, FileOptions, load
 from j39plan.dbc.signals import exactly, in_ascii, long_name, number_of_signal, place_of, unit_of
 from j39plan.left_out import LeftOut, Unsaid
-from j39plan.plan.answer_places import Placed
+from j39plan.plan.answer_places import PlacedPart
 from j39plan.plan.files import text_of
 from j39plan.plan.parts import Part, Source
 from j39plan.plan.scales import Scale, is_close, place, scale
@@ -31,7 +31,7 @@ NUMBERED = re.compile(r"SPN_?(\d{1,6})")
 UNSAID = Scale(Fraction(1), Fraction(0), "")
 
 
-class Frame(NamedTuple):
+class ReferenceFrame(NamedTuple):
     """How a group is sent: its number, its priority, its least and its greatest length."""
 
     name: str
@@ -40,11 +40,11 @@ class Frame(NamedTuple):
     lengths: tuple[int, int]
 
 
-class Known(NamedTuple):
+class ReferenceSignal(NamedTuple):
     """A signal of the reference: its number, its group, its first bit and width, its scale."""
 
     spn: int
-    frame: Frame
+    frame: ReferenceFrame
     place: tuple[int, int]
     scale: Scale
 
@@ -56,10 +56,10 @@ def number_of(signal: Part) -> int | None:
     return said if said is not None else int(found.group(1)) if found else None
 
 
-def frame_of(group: Part) -> Frame:
+def frame_of(group: Part) -> ReferenceFrame:
     """How a plan's group is sent."""
     length = group.number("length")
-    return Frame(group.label, group.number("pgn"), group.number("priority"), (length, group.number_if_any("most") or length))
+    return ReferenceFrame(group.label, group.number("pgn"), group.number("priority"), (length, group.number_if_any("most") or length))
 
 
 def signals_in(plan: Source) -> Iterator[tuple[Part, Part, int]]:
@@ -71,28 +71,28 @@ def signals_in(plan: Source) -> Iterator[tuple[Part, Part, int]]:
                 yield group, signal, number
 
 
-def of_plan(name: str) -> Iterator[Known]:
+def of_plan(name: str) -> Iterator[ReferenceSignal]:
     """The signals of a plan that is the reference."""
     for group, signal, number in signals_in(Source(text_of(name), name)):
-        yield Known(number, frame_of(group), place(signal), scale(signal))
+        yield ReferenceSignal(number, frame_of(group), place(signal), scale(signal))
 
 
-def of_file(name: str) -> Iterator[Known]:
+def of_file(name: str) -> Iterator[ReferenceSignal]:
     """The signals of a DBC, or of another file that canmatrix reads, with which the units of several vehicles may send a group."""
     with open(name, "rb") as file:
         data = file.read()
     try:
-        matrix = load(name, data, Form(), Unsaid())
+        matrix = load(name, data, FileOptions(), Unsaid())
     except LeftOut as why:
         raise program.Refused(program.UNREADABLE, f"{name}: {why}") from why
     for message in matrix.frames:
         identifier = message.arbitration_id
         if identifier.extended:
-            frame = Frame(message.name, identifier.pgn, identifier.j1939_priority, (message.size, message.size))
+            frame = ReferenceFrame(message.name, identifier.pgn, identifier.j1939_priority, (message.size, message.size))
             yield from (known for signal in message.signals if (known := known_of(signal, frame)))
 
 
-def known_of(signal: canmatrix.Signal, frame: Frame) -> Known | None:
+def known_of(signal: canmatrix.Signal, frame: ReferenceFrame) -> ReferenceSignal | None:
     """A signal of a message, where it has a number and a place that a plan's can have."""
     named = NUMBERED.fullmatch(long_name(signal))
     number = number_of_signal(signal).get("spn") or (int(named.group(1)) if named else None)
@@ -103,7 +103,7 @@ def known_of(signal: canmatrix.Signal, frame: Frame) -> Known | None:
         return None
     if not number or step is None or offset is None:
         return None
-    return Known(number, frame, (start, signal.size), Scale(step, offset, in_ascii(unit_of(signal, 1))))
+    return ReferenceSignal(number, frame, (start, signal.size), Scale(step, offset, in_ascii(unit_of(signal, 1))))
 
 
 def shipped() -> str:
@@ -128,7 +128,7 @@ class Reference:
 
     def __init__(self, name: str) -> None:
         self.name = name
-        self._known: dict[int, list[Known]] = {}
+        self._known: dict[int, list[ReferenceSignal]] = {}
         ending = name.rpartition(".")[2].lower()
         for known in of_file(name) if ending in KINDS else of_plan(name):
             self._known.setdefault(known.spn, []).append(known)
@@ -138,10 +138,10 @@ class Reference:
         if not self._known:
             raise program.Refused(program.UNREADABLE, f"{name}: no signal in it has an SPN")
 
-    def differences(self, plan: Source, says_missing: bool = True) -> list[Placed]:
+    def differences(self, plan: Source, says_missing: bool = True) -> list[PlacedPart]:
         """What is otherwise in a plan, each with its line: of signals, and once of each group. Where not all of its signals are there, it can be said how
         many are."""
-        found: list[Placed] = []
+        found: list[PlacedPart] = []
         seen: set[str] = set()
         signals = list(signals_in(plan))
         there = sum(number in self._known for *_, number in signals)
@@ -163,10 +163,10 @@ class Reference:
                 found += self._of_group(group, mine, [known.frame for known in same])
         return sorted(found, key=lambda one: one.line or 0)
 
-    def _placed(self, line: int, mine: str, other: str) -> Placed:
-        return Placed(line, f"hint {mine}; in {self.name} {other}", "", [])
+    def _placed(self, line: int, mine: str, other: str) -> PlacedPart:
+        return PlacedPart(line, f"hint {mine}; in {self.name} {other}", "", [])
 
-    def _of_signal(self, group: Part, signal: Part, number: int, others: list[Known]) -> Iterator[Placed]:
+    def _of_signal(self, group: Part, signal: Part, number: int, others: list[ReferenceSignal]) -> Iterator[PlacedPart]:
         """What is otherwise of a signal than of all of its number in the reference."""
         what, at, mine = f"SPN {number} {group.label}.{signal.label}", place(signal), scale(signal)
         if all(at != known.place for known in others):
@@ -176,7 +176,7 @@ class Reference:
         if scales and not any(is_close(mine, other) for other in scales):
             yield self._placed(signal.line(key_of(signal, mine, scales)), f"{what}: {mine.shown}", " or ".join(dict.fromkeys(other.shown for other in scales)))
 
-    def _of_group(self, group: Part, mine: Frame, others: list[Frame]) -> Iterator[Placed]:
+    def _of_group(self, group: Part, mine: ReferenceFrame, others: list[ReferenceFrame]) -> Iterator[PlacedPart]:
         """What is otherwise of a group: another priority; lengths none of which is one of the reference."""
         if self.has_priorities and all(mine.priority != other.priority for other in others):
             yield self._placed(group.line("priority"), f"{group.label}: priority {mine.priority}", shown({other.priority for other in others}))

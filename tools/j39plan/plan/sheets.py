@@ -8,7 +8,7 @@ from fractions import Fraction
 from typing import NamedTuple
 
 from j39plan.j1939 import NAME_FIELDS
-from j39plan.plan.answers import Load, Stand
+from j39plan.plan.answers import PlanAnswer
 from j39plan.plan.measures import measure_of
 from j39plan.plan.parts import Source
 from j39plan.plan.schema import arrays
@@ -34,17 +34,10 @@ class Sheet(NamedTuple):
     rows: list[tuple[Cell, ...]]
 
 
-class Answers(NamedTuple):
-    """What the program answers of a plan: who stays at its address, and what `load` says, None where it says nothing."""
-
-    stands: dict[str, Stand]
-    load: Load | None
-
-
 class Sheets:
     """The tables of a plan, with what the program answers of them, the comments behind labels, and the lines of the file."""
 
-    def __init__(self, source: Source, tables: Tables, answers: Answers) -> None:
+    def __init__(self, source: Source, tables: Tables, answers: PlanAnswer) -> None:
         self._source, self._tables, self._answers = source, tables, answers
         self._groups = {group.label: group for group in tables.groups}
         load = answers.load

@@ -299,7 +299,7 @@ class Keys(Protocol):
         """The names of raw numbers."""
 
 
-class Shown(dict[str, list[str]]):
+class ShownTable(dict[str, list[str]]):
     """A table as `show` tells it: the values of each key. What the plan doesn't have isn't there."""
 
     def text(self, key: str) -> str:
@@ -324,14 +324,14 @@ class Shown(dict[str, list[str]]):
         return {int(raw): name for raw, name in told}
 
 
-def shown_in(answer: str) -> dict[str, Shown]:
+def shown_in(answer: str) -> dict[str, ShownTable]:
     """The tables of which `show` tells, each by its words, as `group 2 signal 1`."""
-    tables: dict[str, Shown] = {}
+    tables: dict[str, ShownTable] = {}
     for line in answer.splitlines():
         found = LINE.fullmatch(line)
         assert found is not None, line
         table, key, value = found.groups()
-        tables.setdefault(table, Shown()).setdefault(key, []).append(value)
+        tables.setdefault(table, ShownTable()).setdefault(key, []).append(value)
     return tables
 
 

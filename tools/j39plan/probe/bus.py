@@ -4,7 +4,7 @@ from __future__ import annotations
 
 from typing import Protocol
 
-from j39plan.bench.wire import Noted
+from j39plan.bench.wire import WireFrame
 from j39plan.j1939 import identifier_of
 
 # What fills the bus: a proprietary group, from an address for experiments.
@@ -33,7 +33,7 @@ class Bus(Protocol):
     def put(self, identifier: int, data: bytes) -> None:
         """Sends a frame."""
 
-    def hears(self, until: float) -> Noted | None:
+    def hears(self, until: float) -> WireFrame | None:
         """The next frame that has ended, None where none did until a time, or for some while."""
 
     @property

@@ -8,7 +8,7 @@ from collections.abc import Callable, Iterable
 from j39plan.bench.agenda import Agenda
 from j39plan.bench.rest import Rest, Settings
 from j39plan.bench.values import Values
-from j39plan.bench.wire import Noted
+from j39plan.bench.wire import WireFrame
 from j39plan.plan.tables import Tables
 from j39plan.probe.bus import FILLING
 
@@ -36,7 +36,7 @@ class Memory:
         self._make, self._bitrate, self._agenda = make, bitrate, Agenda()
         self.box: Rest | None = None
         self._waiting: list[deque[tuple[int, bytes]]] = [deque(), deque(), deque()]
-        self._ended: deque[Noted] = deque()
+        self._ended: deque[WireFrame] = deque()
         self._is_busy, self._lines, self._apart = False, 0, 0.0
         self.is_ended = self.is_off = False
         self.errors = 0
@@ -70,12 +70,12 @@ class Memory:
     def _ends(self, who: int, identifier: int, data: bytes) -> None:
         """A frame ends: all hear it."""
         self._lines += 1
-        self._ended.append(Noted(self.now, identifier, data, who != BOX, self._lines))
+        self._ended.append(WireFrame(self.now, identifier, data, who != BOX, self._lines))
         if self.box and who != BOX:
             self.box.heard(self.now, identifier, data)
         self._next()
 
-    def hears(self, until: float) -> Noted | None:
+    def hears(self, until: float) -> WireFrame | None:
         """The next frame that has ended; None where none did until a time."""
         own = self._agenda
         while not self._ended:

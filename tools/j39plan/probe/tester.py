@@ -9,7 +9,7 @@ from typing import Any, NamedTuple
 from j39plan.bench.agenda import Agenda
 from j39plan.bench.rest import Rest, Settings
 from j39plan.bench.values import Values
-from j39plan.bench.wire import Noted
+from j39plan.bench.wire import WireFrame
 from j39plan.j1939 import (
     ADDRESS_CLAIMED, CONNECTION_MANAGEMENT, FRAME_BYTES, GLOBAL_ADDRESS, NAME_FIELDS, NULL_ADDRESS, REQUEST, destination_in, identifier_of, pgn_in, source_in,
 )
@@ -98,7 +98,7 @@ class Tester:
         """A frame of a played unit."""
         self.bus.put(identifier, data)
 
-    def _arrives(self, heard: Noted) -> None:
+    def _arrives(self, heard: WireFrame) -> None:
         """A frame has ended on the bus."""
         identifier, data = heard.identifier, heard.data
         source = source_in(identifier)

@@ -10,7 +10,7 @@ from collections.abc import Callable
 from typing import Any
 
 from j39plan import program
-from j39plan.bench.wire import Noted, Wire
+from j39plan.bench.wire import WireFrame, Wire
 from j39plan.probe.bus import FILLING
 from j39plan.probe.memory import BITS
 from j39plan.probe.tester import Unsure
@@ -129,7 +129,7 @@ class Wired:
         """Sends a frame."""
         self._wire.put(identifier, data)
 
-    def hears(self, until: float) -> Noted | None:
+    def hears(self, until: float) -> WireFrame | None:
         """The next frame that has ended."""
         self._power.look()
         return self._wire.notes(until)

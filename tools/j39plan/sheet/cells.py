@@ -18,7 +18,7 @@ NAMED = re.compile(r"(0x[0-9A-Fa-f]+|0b[01]+|[01]{2,}b|\d+)\s*[=:\s\-–]\s*([^;
 RANGE_OR_FURTHER = re.compile(r"(?:\.\.|-|to|bis)\s*\d")
 
 
-class Place(NamedTuple):
+class BitPlace(NamedTuple):
     """Where a signal begins, byte and bit from 1, and how many bits it has, None where the place doesn't say it."""
 
     byte: int
@@ -90,15 +90,15 @@ def width(text: str) -> int:
     return int(bits)
 
 
-def of_bit(found: re.Match[str]) -> Place:
+def of_bit(found: re.Match[str]) -> BitPlace:
     """A place by bits of the message, counted from 1, as `bit 17`."""
     first = int(found.group(1))
     if first == 0:
         raise LeftOut("bits are counted from 1 in such a place")
-    return Place((first - 1) // 8 + 1, (first - 1) % 8 + 1, int(found.group(2)) - first + 1 if found.group(2) else None)
+    return BitPlace((first - 1) // 8 + 1, (first - 1) % 8 + 1, int(found.group(2)) - first + 1 if found.group(2) else None)
 
 
-def place(text: str) -> Place:
+def place(text: str) -> BitPlace:
     """Where a signal lies, as SAE and makers write it: `4-5`, `1.1`, `2.5-3.8`, `bit 17`. A place by bytes has the bits of these."""
     text = readable(text)
     if bits := BIT.fullmatch(text):
@@ -111,7 +111,7 @@ def place(text: str) -> Place:
         raise LeftOut(f"{plain(text)!r} is no place: bytes and bits are counted from 1")
     end = 8 * (last - 1) + (last_bit or 8) if last else None
     # 1.1 alone says where it begins, 1 alone a whole byte unless a width is said
-    return Place(byte, bit or 1, end - 8 * (byte - 1) - (bit or 1) + 1 if end else None)
+    return BitPlace(byte, bit or 1, end - 8 * (byte - 1) - (bit or 1) + 1 if end else None)
 
 
 def milliseconds(text: str) -> int | None:
@@ -139,7 +139,7 @@ def names_of(text: str) -> dict[int, str]:
     return {raw_of(raw): name.strip() for raw, name in found if not RANGE_OR_FURTHER.match(name)}
 
 
-class Scale(NamedTuple):
+class CellScale(NamedTuple):
     """What the cell of a resolution says: the factor, the offset that stands behind it, None where none does, and the unit in it."""
 
     factor: Fraction
@@ -147,12 +147,12 @@ class Scale(NamedTuple):
     unit: str
 
 
-def scale(text: str) -> Scale:
+def scale(text: str) -> CellScale:
     """A resolution, as `0.125`, `0,125 rpm/bit`, `1/256 km/h per bit`, `1 deg C/bit, -40 deg C offset`."""
     factor = number(text)
     rest = NUMBER.sub("", readable(text), count=1)
     said = re.match(r"\s*(.*?)\s*(?:/|per |pro )\s*bit\b(.*)", rest, re.IGNORECASE | re.DOTALL)
     if not said:
-        return Scale(factor, None, "")
+        return CellScale(factor, None, "")
     shift = NUMBER.search(said.group(2)) if "offset" in said.group(2).lower() else None
-    return Scale(factor, number(shift.group().strip()) if shift else None, said.group(1).strip())
+    return CellScale(factor, number(shift.group().strip()) if shift else None, said.group(1).strip())

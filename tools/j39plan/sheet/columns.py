@@ -8,7 +8,7 @@ from typing import NamedTuple
 from j39plan import program
 from j39plan.left_out import LeftOut
 from j39plan.plan import toml_reader
-from j39plan.sheet.files import Row
+from j39plan.sheet.files import SheetRow
 
 # Names of columns as they are usual, in small letters, without what stands in brackets.
 NAMES: dict[str, str] = {
@@ -81,7 +81,7 @@ class Mapping(NamedTuple):
     keys: dict[str, str]
     marks: list[str]
 
-    def columns_in(self, row: Row) -> Columns | None:
+    def columns_in(self, row: SheetRow) -> Columns | None:
         """The columns of a sheet, if this row names them: each key once, by the first column of its names."""
         told: list[str | None] = []
         for cell in row.cells:

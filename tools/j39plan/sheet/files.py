@@ -13,7 +13,7 @@ from collections.abc import Iterable, Iterator
 from typing import Any, NamedTuple
 
 from j39plan import program
-from j39plan.left_out import LeftOut, Notes, plain
+from j39plan.left_out import LeftOut, plain
 
 # The kinds of sheets by their endings.
 KINDS = ("csv", "xlsx", "ods")
@@ -31,7 +31,7 @@ MERGED = re.compile(rb'<mergeCell ref="([A-Z]+)(\d+):([A-Z]+)(\d+)"')
 DATE, NO_VALUE = "\u0001date", "\u0001formula"
 
 
-class Row(NamedTuple):
+class SheetRow(NamedTuple):
     """A row: its sheet, empty where there is only one, its number from 1, and its cells."""
 
     sheet: str
@@ -69,7 +69,7 @@ def decoded(data: bytes, encoding: str | None) -> str:
         return data.decode("cp1252", "replace")
 
 
-def csv_rows(data: bytes, encoding: str | None) -> Iterator[Row]:
+def csv_rows(data: bytes, encoding: str | None) -> Iterator[SheetRow]:
     """The rows of a CSV file, whose cells are apart by what its first lines have most of: a semicolon, a tab or a comma."""
     text = decoded(data, encoding)
     if "\0" in text:
@@ -78,7 +78,7 @@ def csv_rows(data: bytes, encoding: str | None) -> Iterator[Row]:
     apart = max(";\t,", key=first.count)
     try:
         for number, cells in enumerate(csv.reader(io.StringIO(text, newline=""), delimiter=apart), 1):
-            yield Row("", number, [cell.strip() for cell in cells])
+            yield SheetRow("", number, [cell.strip() for cell in cells])
     except csv.Error as fault:
         raise LeftOut(f"it is no CSV file: {fault}") from None
 
@@ -119,7 +119,7 @@ def merged_in(parts: zipfile.ZipFile, path: str) -> dict[tuple[int, int], tuple[
     return found
 
 
-def xlsx_rows(data: bytes) -> Iterator[Row]:
+def xlsx_rows(data: bytes) -> Iterator[SheetRow]:
     """The rows of an XLSX workbook, formulas by the values that were saved with them, merged cells each with what the first one has."""
     openpyxl = library("openpyxl", "python3-openpyxl")
     parts = parts_of(data, "XLSX")
@@ -136,7 +136,7 @@ def xlsx_rows(data: bytes) -> Iterator[Row]:
                         above[number, column] = cell
                     elif (number, column) in merged:
                         cells[column] = above.get(merged[number, column], "")
-                yield Row(plain(sheet.title), number, cells)
+                yield SheetRow(plain(sheet.title), number, cells)
     except (LeftOut, MemoryError):
         raise
     except Exception as fault:  # openpyxl raises what its parsers do
@@ -159,7 +159,7 @@ def ods_cells(row: Any) -> Iterator[tuple[str, int]]:
         yield from ((said, rows) for _ in range(count))
 
 
-def ods_rows(data: bytes) -> Iterator[Row]:
+def ods_rows(data: bytes) -> Iterator[SheetRow]:
     """The rows of an ODS workbook, formulas by their values, cells that are merged over rows each with what the first one has."""
     opendocument, table = library("odf.opendocument", "python3-odf"), library("odf.table", "python3-odf")
     with parts_of(data, "ODS") as parts:
@@ -186,11 +186,11 @@ def ods_rows(data: bytes) -> Iterator[Row]:
                     above[column] = cell, rows - 1
                 cells.append(cell)
             number += 1
-            yield Row(plain(sheet.getAttribute("name")), number, cells)
+            yield SheetRow(plain(sheet.getAttribute("name")), number, cells)
             number += int(row.getAttribute("numberrowsrepeated") or 1) - 1
 
 
-def few(rows: Iterable[Row]) -> Iterator[Row]:
+def few(rows: Iterable[SheetRow]) -> Iterator[SheetRow]:
     """The rows with something in them, of which there may not be more than a plan could have."""
     count = 0
     for row in rows:
@@ -201,13 +201,8 @@ def few(rows: Iterable[Row]) -> Iterator[Row]:
             yield row
 
 
-def rows_of(kind: str, data: bytes, encoding: str | None) -> list[Row]:
+def rows_of(kind: str, data: bytes, encoding: str | None) -> list[SheetRow]:
     """The rows of a file of this kind that have something in them."""
     found = list(few(csv_rows(data, encoding) if kind == "csv" else xlsx_rows(data) if kind == "xlsx" else ods_rows(data)))
     names = dict.fromkeys(row.sheet for row in found)
     return found if len(names) > 1 else [row._replace(sheet="") for row in found]
-
-
-def say_left_out(notes: Notes, row: Row, column: str, why: str) -> None:
-    """Says what of a row can't be read."""
-    notes.say(f"{row.at}, column {column}", why)

@@ -16,7 +16,7 @@ from j39plan.plan.measures import is_decimal
 from j39plan.plan.text import as_label
 from j39plan.sheet import cells, own
 from j39plan.sheet.columns import Columns, Mapping, no_columns
-from j39plan.sheet.files import Row, rows_of
+from j39plan.sheet.files import SheetRow, rows_of
 
 if TYPE_CHECKING:
     import canmatrix
@@ -43,10 +43,10 @@ def named(text: str) -> str:
     return as_label(re.sub(r"[^A-Za-z0-9_]+", "_", plain(text).translate(LETTERS)).strip("_"))
 
 
-class Line:
+class MatrixRow:
     """A row by the keys of its columns, of which each that can't be read is said and left out."""
 
-    def __init__(self, row: Row, columns: Columns, notes: Notes, left: list[str]) -> None:
+    def __init__(self, row: SheetRow, columns: Columns, notes: Notes, left: list[str]) -> None:
         self.row, self.columns, self._notes, self._left = row, columns, notes, left
         self._cells = {key: cell for key, cell in zip(columns.keys, row.cells) if key and cell}
 
@@ -92,10 +92,10 @@ class Line:
 
 
 @dataclass
-class Message:
+class MatrixMessage:
     """A message: the row that has its receivers where its signals have none, its group, how it is sent, by whom, and the lines of its signals."""
 
-    line: Line
+    line: MatrixRow
     pgn: int
     name: str
     priority: int | None = None
@@ -105,7 +105,7 @@ class Message:
     period: int | None = None
     sent: str = ""
     comment: str = ""
-    signals: list[Line] = field(default_factory=list)
+    signals: list[MatrixRow] = field(default_factory=list)
 
 
 class Identifier(NamedTuple):
@@ -129,12 +129,12 @@ class Matrix:
     def __init__(self, notes: Notes) -> None:
         self.notes, self.left_out = notes, list[str]()
         self.units: dict[str, dict[str, Any]] = {}
-        self.messages: dict[tuple[int, str], Message] = {}
-        self._by_name: dict[str, Message] = {}
-        self._later: list[Line] = []
-        self._now: Message | None = None
+        self.messages: dict[tuple[int, str], MatrixMessage] = {}
+        self._by_name: dict[str, MatrixMessage] = {}
+        self._later: list[MatrixRow] = []
+        self._now: MatrixMessage | None = None
 
-    def take(self, rows: list[Row], mapping: Mapping) -> None:
+    def take(self, rows: list[SheetRow], mapping: Mapping) -> None:
         """Takes the rows of all sheets, each with the columns that a row above it names."""
         columns, last, has_columns = None, None, False
         for row in rows:
@@ -144,25 +144,25 @@ class Matrix:
             if told is not None and (columns is None or told.keys == columns.keys):
                 columns, has_columns = told, True
                 self.say_unused(row, told)
-                last = Line(row, told, self.notes, self.left_out)
+                last = MatrixRow(row, told, self.notes, self.left_out)
             elif columns is not None:
-                line = Line(row, columns, self.notes, self.left_out)
+                line = MatrixRow(row, columns, self.notes, self.left_out)
                 self.take_line(line, last)
                 last = line
             else:
-                last = Line(row, Columns([], [], set(), {}), self.notes, self.left_out)
+                last = MatrixRow(row, Columns([], [], set(), {}), self.notes, self.left_out)
         if not has_columns:
             raise no_columns()
         for line in self._later:
             self.add_by_name(line)
 
-    def say_unused(self, row: Row, columns: Columns) -> None:
+    def say_unused(self, row: SheetRow, columns: Columns) -> None:
         """Says which columns aren't used."""
         unused = [name for at, (key, name) in enumerate(zip(columns.keys, columns.names)) if name and key is None and at not in columns.marks.values()]
         if unused:
             self.notes.say(row.at, f"columns that aren't used: {', '.join(map(plain, unused))}")
 
-    def take_line(self, line: Line, last: Line | None) -> None:
+    def take_line(self, line: MatrixRow, last: MatrixRow | None) -> None:
         """Takes a row: a message, a signal, both, or a unit."""
         if not {"pgn", "id", "group"} & set(filter(None, line.columns.keys)):
             self.add_unit(line)
@@ -181,7 +181,7 @@ class Matrix:
         if self._now is not None:
             self.add_to(self._now, line)
 
-    def add_by_name(self, line: Line) -> None:
+    def add_by_name(self, line: MatrixRow) -> None:
         """Takes a row that names its group and has no number of it: that of a row with both."""
         message = self._by_name.get(line.text("group"))
         if message is None:
@@ -189,7 +189,7 @@ class Matrix:
         else:
             self.add_to(message, line)
 
-    def message_of(self, line: Line) -> Message | None:
+    def message_of(self, line: MatrixRow) -> MatrixMessage | None:
         """The message of a row with the number of a group; None where it can't be read."""
         ident = line.read("id", cells.identifier)
         told = Identifier.of(ident) if ident is not None else None
@@ -200,7 +200,7 @@ class Matrix:
         known = next((name for pgn, name in reversed(self.messages) if pgn == number), f"PGN{number}")
         name = line.text("group") or known
         sender = self.sender_of(line, told)
-        message = self.messages.setdefault((number, name), Message(line, number, name))
+        message = self.messages.setdefault((number, name), MatrixMessage(line, number, name))
         self._by_name.setdefault(name, message)
         if sender:
             message.senders[sender] = None
@@ -209,7 +209,7 @@ class Matrix:
             message.to = message.to or (str(told.destination) if told.destination != GLOBAL_ADDRESS else "")
         return message
 
-    def sender_of(self, line: Line, told: Identifier | None) -> str:
+    def sender_of(self, line: MatrixRow, told: Identifier | None) -> str:
         """The unit that sends a message, which is kept with its address."""
         address = line.number("sa", NULL_ADDRESS)
         if address is None and told and told.source < NULL_ADDRESS:
@@ -221,13 +221,13 @@ class Matrix:
             self.keep(line, sender, "sa", address)
         return sender
 
-    def keep(self, line: Line, unit: str, key: str, value: object) -> None:
+    def keep(self, line: MatrixRow, unit: str, key: str, value: object) -> None:
         """Keeps what is said of a unit; another value than before is said."""
         known = self.units.setdefault(unit, {})
         if value is not None and known.setdefault(key, value) != value:
             line.say(key, f"{unit} has {known[key]} above, and here {value}")
 
-    def add_unit(self, line: Line) -> None:
+    def add_unit(self, line: MatrixRow) -> None:
         """Takes a row of a unit: its address, and fields of its NAME."""
         if "from" not in line and "signal" not in line:
             return
@@ -238,7 +238,7 @@ class Matrix:
         if "arbitrary" in line:
             self.keep(line, unit, "arbitrary", bool(re.match(r"1|y|j|t|x", line.text("arbitrary"), re.IGNORECASE)))
 
-    def add_to(self, message: Message, line: Line) -> None:
+    def add_to(self, message: MatrixMessage, line: MatrixRow) -> None:
         """Takes what a row says of a message, and its signal."""
         told = {"priority": line.number("priority", 7), "length": line.read("length", lambda text: cells.whole(text, 1785)),
                 "period": line.read("period", cells.milliseconds)}
@@ -265,7 +265,7 @@ class Places:
         lines = [line for message in matrix.messages.values() for line in message.signals]
         self._zeros = {(line.row.sheet, key) for line in lines for key in ("byte", "bit", "start") if re.fullmatch(r"0([.,]\d+)?", line.cell(key))}
 
-    def of(self, line: Line) -> cells.Place | None:
+    def of(self, line: MatrixRow) -> cells.BitPlace | None:
         """Where a signal lies; None where that can't be read."""
         bits = line.read("bits", cells.width)
         has_bytes = {"start", "byte"} & {*line.columns.keys}
@@ -287,33 +287,33 @@ class Places:
             return None
         return place._replace(bits=bits or place.bits or 8)
 
-    def _shifted(self, line: Line, key: str, how: Callable[[str], cells.Place]) -> Callable[[str], cells.Place]:
+    def _shifted(self, line: MatrixRow, key: str, how: Callable[[str], cells.BitPlace]) -> Callable[[str], cells.BitPlace]:
         """How a place is read in a column that counts bytes from 0 or from 1."""
         if (line.row.sheet, key) not in self._zeros:
             return how
         return lambda text: how(re.sub(r"(?<![\d.])\d+", lambda found: str(int(found.group()) + 1), text))
 
-    def _by_bit(self, line: Line) -> cells.Place | None:
+    def _by_bit(self, line: MatrixRow) -> cells.BitPlace | None:
         """The place by the bit of the message in which a signal begins."""
         bit = line.read("bit", lambda text: cells.whole(text, 14279))
         if bit is None:
             return None
         first = bit if (line.row.sheet, "bit") in self._zeros else bit - 1
-        return cells.Place(first // 8 + 1, first % 8 + 1, None)
+        return cells.BitPlace(first // 8 + 1, first % 8 + 1, None)
 
 
-class Signals:
+class MatrixSignals:
     """The signals of lines as canmatrix has them."""
 
     def __init__(self, matrix: Matrix) -> None:
         self._matrix, self._places = matrix, Places(matrix)
 
-    def of(self, message: Message, line: Line) -> canmatrix.Signal | None:
+    def of(self, message: MatrixMessage, line: MatrixRow) -> canmatrix.Signal | None:
         """The signal of a line; None where it can't be read, which is said."""
         import canmatrix
         place, name = self._places.of(line), named(line.text("signal"))
         said = len(self._matrix.left_out)
-        scale = line.read("factor", cells.scale) if "factor" in line else cells.Scale(Fraction(1), None, "")
+        scale = line.read("factor", cells.scale) if "factor" in line else cells.CellScale(Fraction(1), None, "")
         offset = line.read("offset", cells.number) if "offset" in line else (scale.offset if scale else None) or Fraction(0)
         if place is None or scale is None or offset is None:
             if len(self._matrix.left_out) == said and place is None:
@@ -337,12 +337,12 @@ class Signals:
             signal.add_comment(plain(line.text("comment")))
         return signal
 
-    def is_signed(self, line: Line) -> bool:
+    def is_signed(self, line: MatrixRow) -> bool:
         """Whether the cell on it says that a signal has a sign."""
         text = line.text("sign")
         return bool(SIGNED.match(text)) and not text.lower().startswith(("unsigned", "uint"))
 
-    def receivers(self, message: Message, line: Line) -> list[str]:
+    def receivers(self, message: MatrixMessage, line: MatrixRow) -> list[str]:
         """Who receives a signal: those of its own row, else those of its message."""
         told = line if "receivers" in line else message.line
         listed = [named(word) for word in APART.split(told.text("receivers")) if re.search(r"\w", word) and not EVERYBODY.fullmatch(word)]
@@ -355,7 +355,7 @@ def exact(value: Fraction) -> Decimal:
     return Decimal(value.numerator) / Decimal(value.denominator)
 
 
-def destination_of(message: Message, matrix: Matrix) -> int:
+def destination_of(message: MatrixMessage, matrix: Matrix) -> int:
     """The address to which a message goes: that of all, also where it is none's, which is said."""
     if is_pdu2(message.pgn) or not message.to or EVERYBODY.fullmatch(message.to):
         return GLOBAL_ADDRESS
@@ -368,7 +368,7 @@ def destination_of(message: Message, matrix: Matrix) -> int:
     return GLOBAL_ADDRESS if address is None else int(address)
 
 
-def frame_of(message: Message, matrix: Matrix, signals: Signals) -> canmatrix.Frame:
+def frame_of(message: MatrixMessage, matrix: Matrix, signals: MatrixSignals) -> canmatrix.Frame:
     """A message as canmatrix has it."""
     import canmatrix
     sources = [matrix.units[sender]["sa"] for sender in message.senders if "sa" in matrix.units[sender]]
@@ -394,7 +394,7 @@ def frame_of(message: Message, matrix: Matrix, signals: Signals) -> canmatrix.Fr
 def network_of(matrix: Matrix) -> canmatrix.CanMatrix:
     """The units and messages as canmatrix has them."""
     import canmatrix
-    network, signals = canmatrix.CanMatrix(), Signals(matrix)
+    network, signals = canmatrix.CanMatrix(), MatrixSignals(matrix)
     frames = [frame_of(message, matrix, signals) for message in matrix.messages.values()]
     receivers = (name for frame in frames for signal in frame.signals for name in signal.receivers)
     for name in dict.fromkeys([*matrix.units, *receivers]):
@@ -416,7 +416,7 @@ def load(kind: str, data: bytes, encoding: str | None, mapping: Mapping, notes: 
     from j39plan.dbc.reader import import_canmatrix
     rows = rows_of(kind, data, encoding)
     if own.is_own(tables := own.tables_in(rows)):
-        raise own.Plan(tables)
+        raise own.OwnPlan(tables)
     import_canmatrix()
     matrix = Matrix(notes)
     matrix.take(rows, mapping)

@@ -13,7 +13,7 @@ from j39plan.plan import schema
 from j39plan.plan.sheets import FIELDS, NAMES
 from j39plan.plan.text import Table, lines_of, spelled
 from j39plan.sheet import cells
-from j39plan.sheet.files import Row
+from j39plan.sheet.files import SheetRow
 
 # The columns by which a table is one of a plan's.
 HEADS = {"units": {"unit", "address", "NAME"}, "groups": {"group", "pgn", "pgn hex"}, "signals": {"signal", "byte", "bits", "kind"},
@@ -22,10 +22,10 @@ HEADS = {"units": {"unit", "address", "NAME"}, "groups": {"group", "pgn", "pgn h
 WHEN = re.compile(r"(\d+)\.(\d+), (\d+) bits = (\d+)")
 
 
-class Line(NamedTuple):
+class TableRow(NamedTuple):
     """A row of a table, by the heads of its columns."""
 
-    row: Row
+    row: SheetRow
     cells: dict[str, str]
 
     def word(self, head: str) -> str:
@@ -33,17 +33,17 @@ class Line(NamedTuple):
         return plain(self.cells.get(head, ""))
 
 
-class Plan(LeftOut):
+class OwnPlan(LeftOut):
     """What is read is no matrix, but the tables of a plan."""
 
-    def __init__(self, tables: dict[str, list[Line]]) -> None:
+    def __init__(self, tables: dict[str, list[TableRow]]) -> None:
         super().__init__("it has the tables of a whole plan")
         self.tables = tables
 
 
-def tables_in(rows: list[Row]) -> dict[str, list[Line]]:
+def tables_in(rows: list[SheetRow]) -> dict[str, list[TableRow]]:
     """The rows of the tables of a plan, by the tables' names; none where a sheet is none of these."""
-    found: dict[str, list[Line]] = {}
+    found: dict[str, list[TableRow]] = {}
     name, heads, sheet = "", list[str](), ""
     for row in rows:
         there = [cell for cell in row.cells if cell]
@@ -54,13 +54,13 @@ def tables_in(rows: list[Row]) -> dict[str, list[Line]]:
             name, heads = named, row.cells
             found.setdefault(name, [])
         elif heads:
-            found[name].append(Line(row, {head: cell for head, cell in zip(heads, row.cells) if head}))
+            found[name].append(TableRow(row, {head: cell for head, cell in zip(heads, row.cells) if head}))
         elif not (len(there) == 1 and there[0] in NAMES):
             return {}
     return found
 
 
-def is_own(tables: dict[str, list[Line]]) -> bool:
+def is_own(tables: dict[str, list[TableRow]]) -> bool:
     """Whether tables make a plan: there are units or groups among them."""
     return "units" in tables or "groups" in tables
 
@@ -68,7 +68,7 @@ def is_own(tables: dict[str, list[Line]]) -> bool:
 class Reader:
     """Reads the tables of a plan; a cell that can't be read is said with its place, and left out."""
 
-    def __init__(self, tables: dict[str, list[Line]], notes: Notes) -> None:
+    def __init__(self, tables: dict[str, list[TableRow]], notes: Notes) -> None:
         self._tables, self._notes = tables, notes
         self.counts: dict[str, int] = {}
         self.version = schema.VERSIONS[-1]
@@ -100,7 +100,7 @@ class Reader:
             lines += [f"errors = {spelled(said['timing errors'])}"] if said["timing errors"] else []
         return lines
 
-    def rows(self, table: str, *needed: str) -> Iterator[Line]:
+    def rows(self, table: str, *needed: str) -> Iterator[TableRow]:
         """The rows of a table that have what no row may be without."""
         for line in self._tables.get(table, []):
             missing = [head for head in needed if not line.word(head)]
@@ -109,13 +109,13 @@ class Reader:
             else:
                 yield line
 
-    def say(self, line: Line, head: str, why: object) -> None:
+    def say(self, line: TableRow, head: str, why: object) -> None:
         """Says what of a row is left out."""
         what = f"{line.row.at}, column {head}"
         self._notes.say(what, why)
         self._notes.left_out.append(f"left out: {what}: {why}")
 
-    def read(self, line: Line, head: str, how: Callable[[str], Any]) -> Any:
+    def read(self, line: TableRow, head: str, how: Callable[[str], Any]) -> Any:
         """What a cell says; None where it is empty or can't be read."""
         text = line.cells.get(head, "")
         if not text:
@@ -126,15 +126,15 @@ class Reader:
             self.say(line, head, why)
             return None
 
-    def number(self, line: Line, head: str) -> Any:
+    def number(self, line: TableRow, head: str) -> Any:
         """A whole number of at least 0."""
         return self.read(line, head, lambda text: cells.whole(text, 1 << 40))
 
-    def keys(self, line: Line, **heads: str) -> dict[str, Any]:
+    def keys(self, line: TableRow, **heads: str) -> dict[str, Any]:
         """The keys of a table that have numbers in these columns."""
         return {key: value for key, head in heads.items() if (value := self.number(line, head)) is not None}
 
-    def remarks(self, line: Line) -> list[str]:
+    def remarks(self, line: TableRow) -> list[str]:
         """The comment of a row."""
         return [line.word("comment")] if line.word("comment") else []
 
@@ -172,7 +172,7 @@ class Reader:
             found.setdefault(line.word("group"), []).append(table)
         return found
 
-    def signal(self, line: Line) -> dict[str, Any]:
+    def signal(self, line: TableRow) -> dict[str, Any]:
         """The keys of a signal."""
         factor, offset = (self.read(line, head, cells.number) for head in ("factor", "offset"))
         step, per, first, fraction = scaled(Fraction(1) if factor is None else factor, offset or Fraction(0), self.version)

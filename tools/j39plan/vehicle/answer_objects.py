@@ -5,7 +5,7 @@ from itertools import groupby
 from j39plan.plan import answer_objects
 from j39plan.plan.answer_grammar import Line
 from j39plan.plan.answer_objects import Object
-from j39plan.plan.answer_places import Placed
+from j39plan.plan.answer_places import PlacedPart
 from j39plan.vehicle.answer_grammar import line_of
 from j39plan.vehicle.answer_places import InFile
 
@@ -23,17 +23,17 @@ def line_object(line: Line) -> Object:
     return found
 
 
-def status_of(parts: list[Placed]) -> int:
+def status_of(parts: list[PlacedPart]) -> int:
     """The status that `check` has where it answers so."""
     return next((status for word, status in (("refused ", 2), ("findings ", 1)) if any(part.answer.startswith(word) for part in parts)), 0)
 
 
-def bus_object(bus: str, file: str, parts: list[Placed], hints: list[Placed] | None, further: list[Placed]) -> Object:
+def bus_object(bus: str, file: str, parts: list[PlacedPart], hints: list[PlacedPart] | None, further: list[PlacedPart]) -> Object:
     """What is answered of a bus, as `check` answers of its plan."""
     return {"bus": bus, **answer_objects.check_object(file, status_of(parts), parts, hints, further)}
 
 
-def placed_object(part: Placed) -> Object:
+def placed_object(part: PlacedPart) -> Object:
     """A finding or a refusal, with its line of the file and a hint."""
     found = {**line_object(line_of(part.answer)), "text": part.answer, "line": part.line, "hint": part.hint}
     return {key: said for key, said in found.items() if said not in ("", None)}

@@ -10,7 +10,7 @@ from j39plan.vehicle.files import plan_file
 from j39plan.vehicle.further_faults import further_faults
 
 
-class Answered(NamedTuple):
+class VehicleAnswer(NamedTuple):
     """The exit status of the program, the parts of its answer, and what else is wrong in a file that it refuses."""
 
     status: int
@@ -35,7 +35,7 @@ def refuse_missing(shown: str, name: str, source: Source) -> None:
             raise program.Refused(program.DEVICE, f'{shown}:{source.line((*bus, "plan"))}: plan = "{plan}": {fault.strerror}') from None
 
 
-def answered(shown: str, name: str, data: bytes) -> Answered:
+def answered(shown: str, name: str, data: bytes) -> VehicleAnswer:
     """What the program answers of a vehicle's file, whose name is shown as the one by which it was given."""
     status, answer = program.call(["vehicle", "--", name])
     if status == program.DEVICE:
@@ -43,4 +43,4 @@ def answered(shown: str, name: str, data: bytes) -> Answered:
     parts = list(placed(name, data, answer)) if answer else []
     further = further_faults(name, data, parts)
     renamed = [[InFile(shown, bus, part) if file == name else InFile(file, bus, part) for file, bus, part in some] for some in (parts, further)]
-    return Answered(status, *renamed)
+    return VehicleAnswer(status, *renamed)

@@ -15,7 +15,7 @@ from j39plan.vehicle.files import Vehicle, is_vehicle
 OF_BUS, INTERFACE = re.compile(r"([A-Za-z0-9_]{1,32})=(.+)", re.DOTALL), re.compile(r"([^\s=]+)=([A-Za-z0-9_]{1,32})")
 
 
-class Drive(NamedTuple):
+class BusLogs(NamedTuple):
     """The logs of a bus: its label, the file of its plan, the files of the logs, and the interface that is read of these, None where that is the first."""
 
     bus: str
@@ -77,7 +77,7 @@ def refuse_what_is_read_once(name: str) -> None:
         raise program.Refused(program.UNREADABLE, f"{name}: only a regular file can be read for several buses")
 
 
-def drives_of(vehicle: Vehicle, names: list[str], interfaces: list[tuple[str, str]]) -> list[Drive]:
+def drives_of(vehicle: Vehicle, names: list[str], interfaces: list[tuple[str, str]]) -> list[BusLogs]:
     """The drives of a vehicle's buses, in their order; of a bus without a log that is said."""
     own: dict[str, list[str]] = {}
     shared = []
@@ -99,7 +99,7 @@ def drives_of(vehicle: Vehicle, names: list[str], interfaces: list[tuple[str, st
         raise program.Refused(program.UNREADABLE, "--bus is of logs that aren't of one bus alone, and there is none")
     for name in shared:
         refuse_what_is_read_once(name)
-    return [Drive(bus.label, vehicle.file_of(bus), own.get(bus.label, shared), by_bus.get(bus.label))
+    return [BusLogs(bus.label, vehicle.file_of(bus), own.get(bus.label, shared), by_bus.get(bus.label))
             for bus in vehicle.tables.buses if is_told(bus.label, own, by_bus)]
 
 

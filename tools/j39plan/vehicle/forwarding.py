@@ -13,7 +13,7 @@ from j39plan.vehicle.tables import OnBus
 
 
 @dataclass(frozen=True)
-class End:
+class GatewayEnd:
     """A bus by its label, its plan, and the unit of the gateway there; whether that was named, and isn't called as the gateway."""
 
     bus: str
@@ -46,7 +46,7 @@ class Made:
     is_periodic: bool
 
 
-def input_of(one: End, group: Group, sender: str | None) -> Flow:
+def input_of(one: GatewayEnd, group: Group, sender: str | None) -> Flow:
     """The one flow that brings the gateway's unit a group."""
     need = Need(one.unit, group.label, sender=sender or "")
     flows = [flow for flow in one.tables.flows if need.is_met_by(flow)]
@@ -59,7 +59,7 @@ def input_of(one: End, group: Group, sender: str | None) -> Flow:
     return flows[0]
 
 
-def outputs_of(other: End, group: Group) -> list[Flow]:
+def outputs_of(other: GatewayEnd, group: Group) -> list[Flow]:
     """The flows in which the gateway's unit sends a group."""
     flows = [flow for flow in other.tables.flows if flow.group == group.label and flow.sender == other.unit]
     if not flows:
@@ -69,7 +69,7 @@ def outputs_of(other: End, group: Group) -> list[Flow]:
     return flows
 
 
-def differences(one: End, heard: Group, other: End, sent: Group) -> str:
+def differences(one: GatewayEnd, heard: Group, other: GatewayEnd, sent: Group) -> str:
     """Why messages of a group can't be copied into another one, empty where they can."""
     why = [layout(heard, sent, (str(one.on(heard)), str(other.on(sent))))]
     for signal in sent.signals:
@@ -78,7 +78,7 @@ def differences(one: End, heard: Group, other: End, sent: Group) -> str:
     return "; ".join(filter(None, why))
 
 
-def match_of(one: End, heard: Group, other: End) -> Group:
+def match_of(one: GatewayEnd, heard: Group, other: GatewayEnd) -> Group:
     """The group of the other bus that has the number of one, and into which it can be copied; of several the first that the gateway sends."""
     same = [group for group in other.tables.groups if group.pgn == heard.pgn]
     if not same:
@@ -100,7 +100,7 @@ def is_too_often(heard: Flow, sent: Flow) -> bool:
 class Forwarding:
     """What a gateway can send on from one bus to another, of these groups of the first one; what it can't is noted."""
 
-    def __init__(self, one: End, other: End, groups: list[Group], wish: Wish, notes: Notes) -> None:
+    def __init__(self, one: GatewayEnd, other: GatewayEnd, groups: list[Group], wish: Wish, notes: Notes) -> None:
         self._one, self._other, self._wish, self._notes = one, other, wish, notes
         self.made: list[Made] = []
         for group in groups:

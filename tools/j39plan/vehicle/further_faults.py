@@ -1,7 +1,7 @@
 """What else is wrong in the file of a vehicle, or of the plan of a bus, that the program refuses: it tells the first fault alone."""
 
 from j39plan.plan import further_faults as plan_faults
-from j39plan.plan.answer_places import Placed
+from j39plan.plan.answer_places import PlacedPart
 from j39plan.plan.further_faults import Fault, errors_of, faults_of
 from j39plan.plan.hints.text_faults import Told
 from j39plan.plan.parts import Source
@@ -36,7 +36,7 @@ def further_faults(name: str, data: bytes, parts: list[InFile]) -> list[InFile]:
     if not parts or not parts[-1].part.answer.startswith("refused "):
         return []
     file, bus, last = parts[-1]
-    found: list[Placed]
+    found: list[PlacedPart]
     if bus:
         with open(file, "rb") as opened:
             found = plan_faults.further_faults(opened.read(), [last])

@@ -50,7 +50,7 @@ class Gateway:
 
 
 @dataclass(frozen=True)
-class Carried:
+class SignalForward:
     """A signal of a forward: its label in the group that is heard, that of the one into which it goes, and whether each value has to be one of it."""
 
     label: str
@@ -73,7 +73,7 @@ class Forward:
     to: str
     mode: str
     within: int | None
-    signals: list[Carried] | None
+    signals: list[SignalForward] | None
     place: Place = field(default=(), compare=False, repr=False)
 
     @property
@@ -163,9 +163,9 @@ class Table:
         return [Table(self.source, place) for place in self.source.places.elements(self.place + (key,))]
 
 
-def carried_of(table: Table) -> Carried:
+def carried_of(table: Table) -> SignalForward:
     """A signal of a forward."""
-    return Carried(table.text("label"), table.text("as") or table.text("label"), table.is_true("exact"), table.place)
+    return SignalForward(table.text("label"), table.text("as") or table.text("label"), table.is_true("exact"), table.place)
 
 
 def forward_of(table: Table) -> Forward:

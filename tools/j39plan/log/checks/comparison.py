@@ -31,7 +31,7 @@ from j39plan.log.checks.unplanned import Bounds, Unplanned
 from j39plan.log.checks.wording import lengths_of, no_group
 from j39plan.log.clock import DAY, MILLISECOND, SECOND, Clock
 from j39plan.log.reports import Acknowledgement, Claim, Frame, Message, Report, Request, Who
-from j39plan.log.serial_numbers import Renumbered
+from j39plan.log.serial_numbers import OtherBox
 from j39plan.plan.tables import Group, Tables
 
 # Groups that nobody plans.
@@ -52,7 +52,7 @@ class Settings(NamedTuple):
 
     tolerance: Tolerance
     rule: Rule
-    others: list[Renumbered] = []
+    others: list[OtherBox] = []
 
 
 class Comparison:

@@ -3,14 +3,14 @@
 from collections.abc import Iterable
 
 from j39plan.log.checks.deviations import Found, Place
-from j39plan.log.serial_numbers import Renumbered
+from j39plan.log.serial_numbers import OtherBox
 
 
 class Numbers:
     """Which serial numbers claimed as which unit, and where each first. A unit whose box has another one than the plan is told once, several such units by one
     line, and each further box of a unit."""
 
-    def __init__(self, others: Iterable[Renumbered], found: Found) -> None:
+    def __init__(self, others: Iterable[OtherBox], found: Found) -> None:
         self._planned = {other.label: other.planned for other in others}
         self._found = found
         self._boxes: dict[str, dict[int, Place]] = {}

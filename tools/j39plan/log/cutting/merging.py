@@ -11,7 +11,7 @@ from j39plan.log.clock import ORDER, nanoseconds
 from j39plan.log.cutting.clocks import frame_in
 
 
-class Line(NamedTuple):
+class LogLine(NamedTuple):
     """A line by its time, that of the one before where it has none, and by which of the logs has it."""
 
     at: int
@@ -19,21 +19,21 @@ class Line(NamedTuple):
     text: bytes
 
 
-def timed(lines: Iterable[bytes], log: int) -> Iterator[Line]:
+def timed(lines: Iterable[bytes], log: int) -> Iterator[LogLine]:
     """The lines of a log."""
     last = 0
     for line in lines:
         at = nanoseconds(line.partition(b" ")[0].decode("ascii", "replace"))
         last = last if at is None else at
-        yield Line(last, log, line)
+        yield LogLine(last, log, line)
 
 
-class Merged:
+class MergedLogs:
     """The lines of two logs in the order of their times. A frame that both have within a time of one another is one."""
 
     def __init__(self, spread: int) -> None:
         self._window = max(spread, ORDER)
-        self._waiting: dict[bytes, deque[Line]] = {}  # by frames the lines of which the other log may have one too
+        self._waiting: dict[bytes, deque[LogLine]] = {}  # by frames the lines of which the other log may have one too
         self.both = 0
 
     def lines(self, first: Iterable[bytes], second: Iterable[bytes]) -> Iterator[bytes]:
@@ -43,7 +43,7 @@ class Merged:
             if frame is None or not self._is_known(frame, line):
                 yield line.text
 
-    def _is_known(self, frame: bytes, line: Line) -> bool:
+    def _is_known(self, frame: bytes, line: LogLine) -> bool:
         """Whether the other log has had this frame."""
         waiting = self._waiting.setdefault(frame, deque())
         while waiting and line.at - waiting[0].at > self._window:

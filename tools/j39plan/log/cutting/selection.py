@@ -19,7 +19,7 @@ At = int | None
 
 
 @dataclass
-class Window:
+class TimeSpan:
     """A part of a log by its times, in nanoseconds: from and to a time, None where it isn't bounded; by the clock of the log, or since its first
     time."""
 
@@ -74,7 +74,7 @@ class Selection:
                 number += 1
             yield piece
 
-    def kept(self, reports: Iterable[Report], window: Window) -> Iterator[bytes]:
+    def kept(self, reports: Iterable[Report], window: TimeSpan) -> Iterator[bytes]:
         """The lines that are kept, each as it stands in its file."""
         for report in reports:
             is_inside = window.has(nanoseconds(report.time))
@@ -118,7 +118,7 @@ class Selection:
         return frame.pgn
 
 
-def around(at: int, seconds: float) -> Window:
+def around(at: int, seconds: float) -> TimeSpan:
     """The time around a line of this time."""
-    return Window(at - round(seconds * SECOND), at + round(seconds * SECOND))
+    return TimeSpan(at - round(seconds * SECOND), at + round(seconds * SECOND))
 

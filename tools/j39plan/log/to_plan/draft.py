@@ -15,7 +15,7 @@ from j39plan.log.clock import nanoseconds
 from j39plan.log.files import Log
 from j39plan.log.reports import Counts, Report, Who, lines_of, reports_of
 from j39plan.log.to_plan.groups import Group, Groups
-from j39plan.log.to_plan.measures import Measures, Sent
+from j39plan.log.to_plan.measures import Measures, FlowMeasures
 from j39plan.log.to_plan.survey import Survey
 from j39plan.log.to_plan.times import Times, times_of
 from j39plan.log.to_plan.units import Unit, Units
@@ -44,7 +44,7 @@ class Flow:
     group: Group
     sender: Unit
     to: Unit | None
-    sent: Sent
+    sent: FlowMeasures
     times: Times = Times({}, "")
 
     @property
@@ -134,7 +134,7 @@ class Draft:
                 self._notes.say(f"messages from {box} to {to}", "no unit of the plan has both ends")
                 continue
             for group in groups:
-                found.setdefault((group.label, sender.label, receiver.label if receiver else "all"), Flow(group, sender, receiver, Sent()))
+                found.setdefault((group.label, sender.label, receiver.label if receiver else "all"), Flow(group, sender, receiver, FlowMeasures()))
         if others := [f"{group} from {sender} to {to}" for group, sender, to in list(found)[FLOWS:]]:
             self._notes.say(f"{len(others)} flows, {some_of(others)}", f"a plan has at most {FLOWS} flows")
         return list(found.values())[:FLOWS]

@@ -10,7 +10,7 @@ from typing import NamedTuple
 from j39plan.j1939 import FRAME_BYTES, PROPRIETARY, is_pdu2
 from j39plan.left_out import Notes
 from j39plan.log.to_plan.selectors import Selector, selector_of, values_of
-from j39plan.log.to_plan.survey import Box, Seen, Survey, Way
+from j39plan.log.to_plan.survey import Box, Traffic, Survey, Way
 from j39plan.log.to_plan.units import Unit, Units, place_of
 from j39plan.plan.parts import Part, Source
 from j39plan.plan.schema import default_of, most_of
@@ -76,7 +76,7 @@ class Group:
             return self.priorities.most_common(1)[0][0]
         return self.part.number("priority") if self.part else PRIORITY
 
-    def take(self, seen: Seen, is_only: bool) -> None:
+    def take(self, seen: Traffic, is_only: bool) -> None:
         """Takes what came on a way, whose messages may be of this group alone."""
         for (first, length, priority), count in seen.kinds.items():
             if self._has(first, length, is_only):
@@ -207,9 +207,9 @@ class Groups:
         """What ways have in common whose messages are of the same groups, which are these of a known plan."""
         return way[0] if way[0] not in PROPRIETARY else (self._private[way], *(part.at() for part in parts))
 
-    def _selectors_of(self, ways: list[tuple[object, Seen]]) -> dict[object, tuple[Selector, list[int]]]:
+    def _selectors_of(self, ways: list[tuple[object, Traffic]]) -> dict[object, tuple[Selector, list[int]]]:
         """By what ways have in common the selector that tells their messages apart, and its values, where there is one."""
-        alike: dict[object, list[Seen]] = {}
+        alike: dict[object, list[Traffic]] = {}
         for key, seen in ways:
             alike.setdefault(key, []).append(seen)
         return {key: (selector, values_of(selector, all_seen)) for key, all_seen in alike.items() if (selector := selector_of(all_seen))}
@@ -223,7 +223,7 @@ class Groups:
             return [Group(self._label(way[0], None, sender, f"_WHEN_{value}"), way[0], None, selector, value) for value in values]
         return [Group(self._label(way[0], None, sender), way[0])]
 
-    def _groups_of(self, way: Way, sender: Unit, parts: list[Part], seen: Seen) -> list[Group]:
+    def _groups_of(self, way: Way, sender: Unit, parts: list[Part], seen: Traffic) -> list[Group]:
         """The groups of which a message may be, with what was seen of it on a way."""
         key = self._key(way, parts)
         if key not in self._of:

@@ -29,7 +29,7 @@ TEXT = frozenset((*range(0x20, 0x7F), 0x00, 0xFF))
 
 
 @dataclass
-class Sent:
+class FlowMeasures:
     """Messages of a flow: how many, how many of them were asked for, when the first and the last one began, in nanoseconds, and how far apart
     they began, in steps; of each whole millisecond the longest distance that begins with it; and of so many of them when each began, with a gap
     where the clock was set."""
@@ -55,7 +55,7 @@ class Sent:
         whole = distance // MILLISECOND
         self.longest[whole] = max(distance, self.longest.get(whole, 0))
 
-    def joins(self, other: Sent) -> None:
+    def joins(self, other: FlowMeasures) -> None:
         """Answers of another flow are of this one: how often they came and were asked for."""
         self.count += other.count
         self.asked += other.asked
@@ -66,7 +66,7 @@ class Measures(Comparison):
 
     def __init__(self, tables: Tables) -> None:
         super().__init__(tables, Bounds([], {}, {}), Settings(Tolerance(0, 0, ""), Rule(0, frozenset(), False)), Found())
-        self.by_flow = {number: Sent() for number, _ in enumerate(tables.flows, 1)}
+        self.by_flow = {number: FlowMeasures() for number, _ in enumerate(tables.flows, 1)}
         self.data: dict[str, dict[int, Bytes]] = {}
         self._asks: dict[tuple[int, str], int] = {}  # when a group was asked for last, of a unit or of all
         self._answered: dict[tuple[int, str, str], int] = {}  # when a unit answered whom last

@@ -5,7 +5,7 @@ from __future__ import annotations
 from collections.abc import Collection
 from typing import NamedTuple
 
-from j39plan.log.to_plan.survey import Seen
+from j39plan.log.to_plan.survey import Traffic
 
 # So many values a selector has at most.
 VALUES = 16
@@ -66,7 +66,7 @@ class Pace(NamedTuple):
                 and 10 * (self.number + 1) * self.middle >= LASTING * whole.span)
 
 
-def tells_apart(selector: Selector, seen: Seen) -> bool:
+def tells_apart(selector: Selector, seen: Traffic) -> bool:
     """Whether messages of one way come regularly by the values of a selector, several at the same time, and not so without it."""
     moments = sorted(zip(seen.times, seen.firsts))
     if len(moments) <= FEW:
@@ -80,11 +80,11 @@ def tells_apart(selector: Selector, seen: Seen) -> bool:
     return len(steady) > 1 and 10 * sum(map(len, steady)) >= SHARE * len(moments)
 
 
-def values_of(selector: Selector, ways: Collection[Seen]) -> list[int]:
+def values_of(selector: Selector, ways: Collection[Traffic]) -> list[int]:
     """The values that a selector has in a log."""
     return sorted({selector.value(first) for seen in ways for first, *_ in seen.kinds if first is not None})
 
 
-def selector_of(ways: Collection[Seen]) -> Selector | None:
+def selector_of(ways: Collection[Traffic]) -> Selector | None:
     """The selector of the messages of one number, if they have one."""
     return next((selector for selector in SELECTORS if 1 < len(values_of(selector, ways)) <= VALUES and any(tells_apart(selector, seen) for seen in ways)), None)

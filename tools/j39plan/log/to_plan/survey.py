@@ -40,7 +40,7 @@ Kind = tuple[int | None, int, int | None]
 
 
 @dataclass
-class Seen:
+class Traffic:
     """What came on one way: how often messages of each kind began; of the first ones when they did, in nanoseconds, with their first bytes."""
 
     kinds: Counter[Kind] = field(default_factory=Counter)
@@ -72,16 +72,16 @@ class Seen:
         return found
 
 
-class Announced(NamedTuple):
+class Announcement(NamedTuple):
     """A long message of which no packet came yet: what came on its way, its length, and its time as the log spells it."""
 
-    seen: Seen
+    seen: Traffic
     length: int
     time: str
 
 
 @dataclass
-class Granted:
+class Grants:
     """How many packets a receiver granted at a time: the most, and whether it granted less than was left."""
 
     most: int = 0
@@ -94,15 +94,15 @@ class Survey:
     def __init__(self) -> None:
         self.claims: dict[str, list[tuple[int | None, int]]] = {}  # of each NAME the addresses that it claimed, None of none, with the line of each
         self.first: dict[Box, int] = {}  # the line at which each was heard first
-        self.ways: dict[Way, Seen] = {}
+        self.ways: dict[Way, Traffic] = {}
         self.asked: set[int] = set()  # addresses that are asked for something
-        self.granted: dict[Box, Granted] = {}
+        self.granted: dict[Box, Grants] = {}
         self.frames = 0
         self.others: Counter[int] = Counter()  # groups of services that a log can't tell who needs: by number
         self.beyond: Counter[int] = Counter()  # numbers that no plan can have
         self.nobody: Counter[int] = Counter()  # addresses that nobody may send from
         self._left: dict[tuple[Box, Box | None], int] = {}  # packets of a long message that a receiver didn't grant yet
-        self._announced: dict[tuple[Box, Box | None], Announced] = {}
+        self._announced: dict[tuple[Box, Box | None], Announcement] = {}
 
     def take(self, reports: Iterable[Report]) -> None:
         """Takes all reports of a log."""
@@ -164,12 +164,12 @@ class Survey:
         elif frame.data:
             self._way(frame.pgn, sender, frame.to).take((frame.data[0], len(frame.data), frame.priority), frame.time)
 
-    def _way(self, pgn: int, sender: Box, to: Who) -> Seen:
+    def _way(self, pgn: int, sender: Box, to: Who) -> Traffic:
         """What came on a way so far."""
         way = pgn, sender, self.box(to)
         seen = self.ways.get(way)
         if seen is None:
-            seen = self.ways[way] = Seen()
+            seen = self.ways[way] = Traffic()
         return seen
 
     def _manages(self, frame: Frame, sender: Box) -> None:
@@ -180,7 +180,7 @@ class Survey:
         if announced and announced.is_sound and announced.pgn <= LAST_GROUP and announced.pgn not in SERVICES | OTHER_SERVICES:
             pair = sender, self.box(frame.to)
             self._begins(pair, None)
-            self._announced[pair] = Announced(self._way(announced.pgn, sender, frame.to), announced.length, frame.time)
+            self._announced[pair] = Announcement(self._way(announced.pgn, sender, frame.to), announced.length, frame.time)
             self._left[pair] = min(frame.data[3], frame.data[4])
         elif frame.data[0] == CLEAR and frame.data[1]:
             self._clears(frame, sender)
@@ -194,7 +194,7 @@ class Survey:
     def _clears(self, frame: Frame, sender: Box) -> None:
         """A receiver clears so many packets to be sent: less than it might, where it has a limit."""
         left = self._left.get((self.box(frame.to) or 0, sender))
-        granted = self.granted.setdefault(sender, Granted())
+        granted = self.granted.setdefault(sender, Grants())
         granted.most = max(granted.most, frame.data[1])
         granted.is_limited |= left is not None and frame.data[2] == 1 and frame.data[1] < left
 

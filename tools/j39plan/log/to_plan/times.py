@@ -9,7 +9,7 @@ from typing import NamedTuple
 from j39plan.log.checks.distances import SILENCE
 from j39plan.log.checks.rows import CLOCKS
 from j39plan.log.clock import MILLISECOND, in_words, milliseconds
-from j39plan.log.to_plan.measures import GAP, STEP, Sent
+from j39plan.log.to_plan.measures import GAP, STEP, FlowMeasures
 from j39plan.plan.schema import most_of
 
 # What periods are multiples of, in ms, from those that are looked for first; and how far from such a multiple a median may be: a hundredth of it,
@@ -79,7 +79,7 @@ def spread(distances: list[tuple[int, int]]) -> str:
     return f"{count} distances of {shown(least)} to {shown(most)} ms, half of them up to {shown(quantile(distances, 1, 2))} ms"
 
 
-def times_of(sent: Sent, before: int, behind: int) -> Times:
+def times_of(sent: FlowMeasures, before: int, behind: int) -> Times:
     """The times of a flow that was sent first so long after its unit was heard, and last so long before the log's end, in nanoseconds."""
     distances = sorted(sent.distances.items())
     count = sent.distances.total()
@@ -96,7 +96,7 @@ def times_of(sent: Sent, before: int, behind: int) -> Times:
         return Times({}, f"{told}, in {in_words(span_of(sent))} of {in_words(before + span_of(sent) + behind)}: too seldom for a period")
     core, apart = parted(sent.distances, count, period)
     longest = sent.longest[core[-1][0] * STEP // MILLISECOND]
-    kept = Row(sent.times, range(core[0][0] * STEP, longest + 1))
+    kept = DistanceRow(sent.times, range(core[0][0] * STEP, longest + 1))
     keys, said = keys_of(kept, slower(core, period), before, behind), told_of(core, apart, ends_of(before, behind, longest))
     if distances[-1][0] * STEP > EVENT * period * MILLISECOND:
         keys.pop("pause", None)
@@ -104,7 +104,7 @@ def times_of(sent: Sent, before: int, behind: int) -> Times:
     return Times(keys, said)
 
 
-def span_of(sent: Sent) -> int:
+def span_of(sent: FlowMeasures) -> int:
     """How long a flow was sent."""
     return (sent.last or 0) - (sent.first or 0)
 
@@ -119,7 +119,7 @@ def parted(distances: Counter[int], count: int, period: int) -> tuple[list[tuple
     return (core, out) if core else (sorted(distances.items()), [])
 
 
-class Row(NamedTuple):
+class DistanceRow(NamedTuple):
     """When messages began, in nanoseconds, and the distances that count: behind any other one a row begins anew."""
 
     times: Iterable[int]
@@ -157,7 +157,7 @@ def slower(core: list[tuple[int, int]], period: int) -> int:
     return period if period * MILLISECOND * (1000 - CLOCKS) <= 1000 * mean else max(1, mean // MILLISECOND)
 
 
-def keys_of(row: Row, period: int, *silences: int) -> dict[str, int]:
+def keys_of(row: DistanceRow, period: int, *silences: int) -> dict[str, int]:
     """The keys of a flow: its jitter has room for how much nearer messages come than its period, one after another, and its pause for how far apart, where
     silences at the log's begin and end count, as long as these are no longer than one and a half periods."""
     most = max(row.core[-1], *(silence for silence in silences if 2 * silence <= 3 * period * MILLISECOND), 0)

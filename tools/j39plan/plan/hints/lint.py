@@ -11,7 +11,7 @@ from j39plan import program
 from j39plan.j1939 import FRAME_BYTES, PACKET_BYTES, POOL
 from j39plan.plan import scales
 from j39plan.plan.hints import alternatives, needs, omitted, requests, variants
-from j39plan.plan.hints.names import ON_DEMAND, Asked, Silence
+from j39plan.plan.hints.names import ON_DEMAND, HintChoice, Silence
 from j39plan.plan.hints.words import likely
 from j39plan.plan.parts import Part, Source
 from j39plan.plan.tables import Flow, Unit
@@ -22,7 +22,7 @@ from j39plan.plan.variants import Line as Choices
 Hint = tuple[int, str]
 
 
-class Named(NamedTuple):
+class NamedHint(NamedTuple):
     """A hint with its line, and the name by which it is silenced."""
 
     line: int
@@ -78,18 +78,18 @@ class Lint:
             "unbuilt": (partial(alternatives.nowhere, plan),), "alike": (partial(alternatives.alike, plan),)}
         return {**whole, **(of_line if self.choices else {})}
 
-    def named(self, asked: Asked = Asked()) -> list[Named]:
+    def named(self, asked: HintChoice = HintChoice()) -> list[NamedHint]:
         """The hints that are asked for and that no comment silences, in the order of the file."""
         silence = Silence(self.source)
-        told = {Named(line, text, name) for name, parts in self.found().items() if asked.tells(name) and name not in silence.everywhere
+        told = {NamedHint(line, text, name) for name, parts in self.found().items() if asked.tells(name) and name not in silence.everywhere
                 for part in parts for line, text in part() if not silence.is_silent(name, line)}
         names = [*self.found(), "lint"]
-        told |= {Named(line, f"lint: no hint is called {word}{likely(word, names)}", "lint") for line, word in silence.strange if asked.tells("lint")}
+        told |= {NamedHint(line, f"lint: no hint is called {word}{likely(word, names)}", "lint") for line, word in silence.strange if asked.tells("lint")}
         return sorted(told)
 
     def hints(self) -> list[Hint]:
         """All hints but those that come with nearly every plan, in the order of the file."""
-        return [(hint.line, hint.text) for hint in self.named(Asked(unwanted=ON_DEMAND))]
+        return [(hint.line, hint.text) for hint in self.named(HintChoice(unwanted=ON_DEMAND))]
 
     def at(self, place: Place, key: str, text: str) -> Hint:
         """A hint at a key of a table."""

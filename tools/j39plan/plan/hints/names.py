@@ -30,7 +30,7 @@ ON_DEMAND = frozenset(("drift", "live"))
 SILENCED = re.compile(r"#?\s*lint:\s*(.*)")
 
 
-class Asked(NamedTuple):
+class HintChoice(NamedTuple):
     """Which hints a command line asks for beside the usual ones, and which it doesn't want."""
 
     wanted: frozenset[str] = frozenset()
@@ -41,14 +41,14 @@ class Asked(NamedTuple):
         return name not in self.unwanted and (name in self.wanted or name not in ON_DEMAND)
 
 
-def asked_in(words: Sequence[str]) -> tuple[list[str], Asked]:
+def asked_in(words: Sequence[str]) -> tuple[list[str], HintChoice]:
     """The words of a command line without the names behind `--lint`, each with `-` or `+`, and what these ask for."""
     rest: list[str] = []
     named: dict[str, set[str]] = {"+": set(), "-": set()}
     is_behind = False
     for at, word in enumerate(words):
         if word == "--":
-            return [*rest, *words[at:]], Asked(frozenset(named["+"]), frozenset(named["-"]))
+            return [*rest, *words[at:]], HintChoice(frozenset(named["+"]), frozenset(named["-"]))
         if is_behind and re.fullmatch(r"[+-][a-z][a-z0-9_-]+", word):
             if word[1:] not in NAMES:
                 raise program.Refused(program.UNREADABLE, f"no hint is called {word[1:]}{likely(word[1:], NAMES)}")
@@ -56,7 +56,7 @@ def asked_in(words: Sequence[str]) -> tuple[list[str], Asked]:
             continue
         is_behind = word == "--lint"
         rest.append(word)
-    return rest, Asked(frozenset(named["+"]), frozenset(named["-"]))
+    return rest, HintChoice(frozenset(named["+"]), frozenset(named["-"]))
 
 
 class Silence:

@@ -7,7 +7,7 @@ from fractions import Fraction
 
 from j39plan.plan.hints.groups import wrong_width
 from j39plan.plan.tables import Group, Signal
-from j39plan.vehicle.tables import Carried, Forward
+from j39plan.vehicle.tables import SignalForward, Forward
 from j39plan.vehicle.ways import Ways, agreeing, signal_of
 
 # Kinds of which each raw number is a value.
@@ -104,7 +104,7 @@ def of_copy(heard: Group, sent: Signal) -> str:
     return f"it is {scale(sent)}, and in what is heard {scale(named)}"
 
 
-def carried_into(ways: Ways, forward: Forward, sent: Signal) -> Iterator[tuple[Carried, str]]:
+def carried_into(ways: Ways, forward: Forward, sent: Signal) -> Iterator[tuple[SignalForward, str]]:
     """The signals that go into one, and why each can't stand there."""
     when = ways.group(forward.sent).when
     for carried in forward.signals or ():
