@@ -1,8 +1,13 @@
-//! What is wrong with a part of a plan is wrong with the whole.
-ghost use Rattle.std.specs.Prelude.{ℕ, ◌≤◌, Bool};
+//! What is wrong with a part of a plan is wrong with the whole, and each plan has findings of its load.
+ghost use Rattle.std.specs.Prelude.{ℕ, ◌≤◌, Bool, List, Option};
 ghost use Rattle.j39_findings.specs.Findings.{Holds};
 ghost use Rattle.j39_findings.specs.Standing.{DecidesWhoStays};
 ghost use Rattle.j39_findings.specs.declared.checking.finding.Finding.{Finding};
+ghost use Rattle.j39_load.specs.Asked.{Asked};
+ghost use Rattle.j39_load.specs.Delays.{AreFlowDelays};
+ghost use Rattle.j39_load.specs.LoadFindings.{AreLoadFindings};
+ghost use Rattle.j39_load.specs.declared.findings.load_finding.LoadFinding.{LoadFinding};
+ghost use Rattle.j39_load.specs.declared.waits.delay.Delay.{Delay};
 ghost use Rattle.j39_network.specs.declared.plan.Plan.{Plan};
 ghost use Rattle.j39_network.specs.declared.plan.timing.Timing.{Timing};
 ghost use Rattle.j39_network.specs.declared.plan.unit_plan.UnitPlan.{UnitPlan};
@@ -60,4 +65,13 @@ pub fn loads_of_parts_are_found_in_wholes()
 /// Where only absence is found of a plan and of its load, only absence is found of each part.
 pub fn only_absence_is_found_of_parts()
     ensures { (part whole : Plan) → IsPlanPart part whole → OnlyAbsenceStays part whole }
+{}
+
+/// Each plan has a list of all findings of its load, whatever is known of its bus: it is decided who stays, and each flow
+/// has a delay, whatever is asked of the bus. So what holds where such a list is empty, or has a finding, holds of plans.
+pub fn plans_have_load_findings()
+    ensures standing { (plan : Plan) → (stays : UnitPlan → Bool) × DecidesWhoStays plan stays }
+    ensures delays { (timing : Timing) (asked : Asked) → (delays : List (Option Delay)) × AreFlowDelays timing asked delays }
+    ensures findings { (plan : Plan) (timing : Option Timing) → (findings : List LoadFinding)
+        × AreLoadFindings plan timing findings }
 {}
