@@ -16,8 +16,9 @@ use Rattle.j39_part_laws.proofs.Places.{value_at}
 use Rattle.j39_part_laws.proofs.Staying.{stay_there}
 use Rattle.j39_line_part_laws.specs.Covering.{IsCoveredBy}
 use Rattle.j39_line_part_laws.proofs.Parts.{at, is_part_at, unit_place, units_there}
+use Rattle.j39_line_part_laws.proofs.VariantsExist.{some_plan}
 use Rattle.j39_full_variant_laws.specs.FoundOfFull.{IsPossibleFull}
-use Rattle.j39_full_bound_laws.specs.StayingOfFull.{FullVariantsReportOfUnits, FullVariantsReportWhoStays, HavePlans}
+use Rattle.j39_full_bound_laws.specs.StayingOfFull.{FullVariantsReportOfUnits, FullVariantsReportWhoStays}
 use Rattle.j39_full_variant_laws.proofs.FoundOfFull.{full_cover}
 use Rattle.j39_full_variant_laws.proofs.WithoutNevers.{plan_back, plan_to, possible_to}
 
@@ -36,7 +37,7 @@ module _ (line : ProductLine) (u : ℕ) (unit : UnitPlan) (at_u : slice_get line
       go None is_o = is_o
       go (Some p) is_o = absurd (none-some (unit_place line v w covered p) (sym lacks ∙ units_there line v w covered u p is_o))
 
-module _ (line : ProductLine) (plans : HavePlans line) where
+module _ (line : ProductLine) where
   module _ (u : ℕ) (unit : UnitPlan) (at_u : slice_get line.plan.units.items u ≡ Some unit) where
     standing_too : (standing : LineStanding) → IsStandingAmong (IsPossibleFull line) line u standing → IsLineStanding line u standing
     standing_too NoVariant lacks = λ v possible.
@@ -46,7 +47,7 @@ module _ (line : ProductLine) (plans : HavePlans line) where
       (w, full.possible, has),
       λ v possible.
           let (x, also, covered) = full_cover line v possible in
-          let (whole, is_whole) = plans x also in
+          let (whole, is_whole) = some_plan line x in
           stays_too line u unit at_u v x covered whole is_whole (stays x also),
     )
     standing_too MayMove (w, full, moves) = (w, full.possible, moves)
@@ -61,7 +62,7 @@ module _ (line : ProductLine) (plans : HavePlans line) where
   }
 
 pub report_who_stays : (line : ProductLine) → FullVariantsReportWhoStays line
-report_who_stays line plans standings are = standings_too line plans standings are
+report_who_stays line standings are = standings_too line standings are
 
 -- ---- with or without what isn't built
 
@@ -78,8 +79,8 @@ report_of_units line nevers u below =
     record {
       stays = λ each v possible.
           let (w, full, covered) = full_cover bare v (possible_to line nevers v possible) in
-          let its = each w full in
-          stay_back line nevers v u (stays_too bare u unit at_u v w covered its.plan (plan_to line nevers w its.plan its.is_plan) (stay_to line nevers w u its.stays));
+          let (whole, is_whole) = some_plan bare w in
+          stay_back line nevers v u (stays_too bare u unit at_u v w covered whole is_whole (stay_to line nevers w u (each w full)));
       lacks = λ each v possible.
           let (w, full, covered) = full_cover bare v (possible_to line nevers v possible) in
           lacks_too bare u unit at_u v w covered (each w full);

@@ -1,7 +1,5 @@
 -- Who stays in each full variant stays in each possible one.
 use Rattle.std.specs.Prelude.{ℕ, ◌<◌, List, length}
-use Rattle.j39_network.specs.declared.plan.Plan.{Plan}
-use Rattle.j39_variants.specs.VariantPlans.{IsVariantPlan}
 use Rattle.j39_variants.specs.declared.line.ProductLine.{ProductLine}
 use Rattle.j39_line_findings.specs.FullVariants.{line_with}
 use Rattle.j39_line_findings.specs.PossibleVariants.{IsPossible}
@@ -10,26 +8,15 @@ use Rattle.j39_line_bounds.specs.LineStandings.{AreLineStandings, AreStandingsAm
 use Rattle.j39_line_bounds.specs.declared.standing.LineStanding.{LineStanding}
 use Rattle.j39_full_variant_laws.specs.FoundOfFull.{IsPossibleFull}
 
--- the plans of the full variants were made
-abbrev pub HavePlans : ProductLine → Type 0
-HavePlans line = (w : List ℕ) → IsPossibleFull line w → (plan : Plan) × IsVariantPlan line w plan
-
 -- what is reported of each unit in the possible full variants is what is reported of it in all possible ones
 abbrev pub FullVariantsReportWhoStays : ProductLine → Type 0
-FullVariantsReportWhoStays line = HavePlans line → (standings : List LineStanding) → AreStandingsAmong (IsPossibleFull line) line standings
-    → AreLineStandings line standings
+FullVariantsReportWhoStays line = (standings : List LineStanding) → AreStandingsAmong (IsPossibleFull line) line standings → AreLineStandings line standings
 
 -- ---- with or without what isn't built
 
--- the variant has a plan, in which the unit stays where it is there
-pub record StaysOrLacks (line : ProductLine) (variant : List ℕ) (u : ℕ) : Type 0 where
-  pub plan : Plan
-  pub is_plan : IsVariantPlan line variant plan
-  pub stays : StaysIn line variant u
-
 -- a unit that stays in each full variant that has it stays in each possible one that has it; and one that none of those has is in none of these
 pub record FullVariantsReportOf (line : ProductLine) (nevers : LineNevers) (u : ℕ) : Type 0 where
-  pub stays : ((w : List ℕ) → IsPossibleFull (line_with nevers line) w → StaysOrLacks line w u) → (v : List ℕ) → IsPossible line v → StaysIn line v u
+  pub stays : ((w : List ℕ) → IsPossibleFull (line_with nevers line) w → StaysIn line w u) → (v : List ℕ) → IsPossible line v → StaysIn line v u
   pub lacks : ((w : List ℕ) → IsPossibleFull (line_with nevers line) w → LacksUnit line w u) → (v : List ℕ) → IsPossible line v → LacksUnit line v u
 
 abbrev pub FullVariantsReportOfUnits : ProductLine → LineNevers → Type 0

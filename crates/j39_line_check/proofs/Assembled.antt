@@ -20,6 +20,7 @@ use Rattle.j39_line_witnesses.specs.WitnessLaws.{IsReportedAmong}
 use Rattle.j39_full_variants.specs.CountedFindings.{takes_full_for}
 use Rattle.j39_line_check.proofs.CountingRanks.{same_way}
 use Rattle.j39_line_check.proofs.FindingKinds.{no_amount}
+use Rattle.j39_line_check.proofs.Had.{had}
 use Rattle.j39_line_check.proofs.Pairs.{condition_of_pair, pair_of_found}
 use Rattle.j39_line_check.specs.LineChecks.{AreReported, HasIt, IsSure, IsReportable, IsWitnessFor, counts_for}
 use Rattle.j39_line_check.specs.declared.answer.ReportedFinding.{ReportedFinding}
@@ -41,10 +42,11 @@ module _ (line : ProductLine) (conditioned : List FoundByCondition) (exact : Rep
   pub by_condition : (full : FullAlternatives) (one : FoundByCondition) → IsReportedAmong conditioned one → IsWitnessFor line full one.finding one.witness.items
   by_condition full one among =
       let is = exact.sound one among in record {
-        has = inl (record { possible = is.possible; one = is.has });
+        has = had line one.witness.items one.finding (record { possible = is.possible; one = is.has });
         meets = λ goes. is.meets;
         counts = rw is.goes refl;
-        first = λ other has whatever counts.
+        first = λ other at_any_rate counts.
+            let has = had line other one.finding at_any_rate in
             is.first other has.findings (record { is_possible = has.possible; are_findings = has.are_findings }) has.one;
         most = λ other more has sure same.
             let goes : goes_by_conditions line more ≡ true = same_way line more one.finding same ∙ is.goes in

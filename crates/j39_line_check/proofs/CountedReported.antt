@@ -134,17 +134,17 @@ module _ (line : ProductLine) (covers : FullVariantsHaveWhatIsFound line) (ages 
       let parts = and_parts (not (goes_by_conditions line w.finding)) (takes_full_for line x.full is.variant w.finding) is.looked_for in
       let counts : goes_by_conditions line w.finding ≡ false = not-true (goes_by_conditions line w.finding) parts.0 in
       subst (λ v. IsWitnessFor line x.full w.finding v) (sym variant) (record {
-        has = inr (record {
+        has = record {
           possible = record { is_variant = somehow.is_variant; possible = somehow.possible };
           findings = is.findings;
           are_findings = is.are_findings;
           one = is.one;
-        });
+        };
         meets = λ goes. absurd (true≢false (sym goes ∙ counts));
         counts = rw (counts, parts.1) refl;
-        first = λ other has whatever counted.
+        first = λ other whatever counted.
             let takes : takes_full_for line x.full other w.finding ≡ true = rw counts at counted in
-            let there = are.are_found.complete other (looked_at other w.finding has.possible takes) in
+            let there = are.are_found.complete other (looked_at other w.finding whatever.possible takes) in
             let reported = there.2 w.finding (whatever.one there.0 there.1) (looked_for other w.finding counts takes) in
             let one : reported.witness ≡ w = only_one x.reported.items reported.witness w are.are_found.in_order reported.is_reported among reported.has_rank in
             let at : slice_get vs w.variant ≡ Some reported.variant = subst (λ (y : Witnessed). slice_get vs y.variant ≡ Some reported.variant) one reported.at in

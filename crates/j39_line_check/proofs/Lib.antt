@@ -3,10 +3,11 @@ pub mod Assembled
 pub mod CountedReported
 pub mod CountingRanks
 pub mod FindingKinds
+pub mod Had
 pub mod NothingReported
 pub mod Pairs
-pub mod TakenFull
-pub mod Timed
 pub mod ReportedInOrder
 pub mod ReportedOfLine
+pub mod TakenFull
+pub mod Timed
 pub mod WithoutNevers

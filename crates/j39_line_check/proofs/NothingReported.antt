@@ -1,5 +1,5 @@
 -- Where nothing is reported of a line, no possible variant has a finding.
-use Rattle.std.proofs.Common.{◌≡◌, ℕ, ◌<◌, List, [], ◌∷◌, inl, refl, arith, None}
+use Rattle.std.proofs.Common.{◌≡◌, ℕ, ◌<◌, List, [], ◌∷◌, inl, refl, subst, arith, None}
 use Rattle.std.specs.List.{Contains}
 use Rattle.j39_findings.specs.declared.checking.finding.Finding.{Finding}
 use Rattle.j39_findings.specs.declared.checking.finding.Finding.TheVariants.{BadPgn}
@@ -10,6 +10,7 @@ use Rattle.j39_line_findings.specs.PossibleVariants.{IsPossible}
 use Rattle.j39_line_findings.specs.LineFound.{AreVariantFindings, IsFound}
 use Rattle.j39_line_findings.specs.declared.line_finding.LineFinding.{LineFinding}
 use Rattle.j39_line_findings.specs.declared.line_finding.LineFinding.TheVariants.{OfPlan, OfLoad}
+use Rattle.j39_line_part_laws.proofs.VariantsExist.{some_findings}
 use Rattle.j39_line_check.specs.LineChecks.{AreNumbersGood, AreReported, HasIt, IsSure, NothingReportedIsNothingFound}
 use Rattle.j39_line_check.specs.declared.answer.ReportedFinding.{ReportedFinding}
 
@@ -36,5 +37,13 @@ module _ (line : ProductLine) (reported : AreReported line None []) where
   all_empty v possible (f ∷ findings) all are some =
       absurd (none v f (sure f) (record { possible = possible; findings = all; are_findings = are; one = some f (inl refl) }))
 
+  alone : (v : List ℕ) → IsPossible line v → (findings : List LineFinding) → AreVariantFindings line v findings → findings ≡ []
+  alone v possible findings are = all_empty v possible findings findings are (λ f found. found)
+
 pub nothing_found : NothingReportedIsNothingFound
-nothing_found line reported v possible findings are = all_empty line reported v possible findings findings are (λ f found. found)
+nothing_found line reported v possible =
+    let found = some_findings line v in
+    record {
+      none = subst (AreVariantFindings line v) (alone line reported v possible found.0 found.1) found.1;
+      alone = alone line reported v possible;
+    }

@@ -1,5 +1,5 @@
 -- What is reported of a line of vehicles: what some possible variant has, each once, with the variant that is its witness.
-use Rattle.std.specs.Prelude.{◌≡◌, ◌⊎◌, ℕ, ◌≤◌, ◌||◌, Bool, List, [], ◌∷◌, true, Contains, Option, Some, None}
+use Rattle.std.specs.Prelude.{◌≡◌, ℕ, ◌≤◌, ◌||◌, Bool, List, [], ◌∷◌, true, Contains, Option, Some, None}
 use Rattle.j39_findings.specs.declared.checking.finding.Finding.TheVariants.{BadPgn}
 use Rattle.j39_load.specs.declared.findings.load_finding.LoadFinding.TheVariants.{NoPeriod}
 use Rattle.j39_variants.specs.Variants.{IsEarlier}
@@ -32,7 +32,7 @@ pub record HasIt (line : ProductLine) (variant : List ℕ) (finding : LineFindin
   pub are_findings : AreVariantFindings line variant findings
   pub one : IsFound findings finding
 
--- or it is one of them, whatever these are
+-- it is one of them, whatever these are; so the variant has it, since it has findings
 pub record HasAtAnyRate (line : ProductLine) (variant : List ℕ) (finding : LineFinding) : Type 0 where
   pub possible : IsPossible line variant
   pub one : (findings : List LineFinding) → AreVariantFindings line variant findings → IsFound findings finding
@@ -56,11 +56,10 @@ counts_for line full variant finding = goes_by_conditions line finding || takes_
 -- the variant has the finding, by one of its conditions where it goes by these, and counts as its witness, and no earlier one does; of those that are reported alike none has a greater number of
 -- addresses or bits
 pub record IsWitnessFor (line : ProductLine) (full : FullAlternatives) (finding : LineFinding) (variant : List ℕ) : Type 0 where
-  pub has : HasAtAnyRate line variant finding ⊎ HasIt line variant finding
+  pub has : HasIt line variant finding
   pub meets : goes_by_conditions line finding ≡ true → MayBeFound line finding × (meets_any line variant (conditions_of line finding) ≡ true)
   pub counts : counts_for line full variant finding ≡ true
-  pub first : (other : List ℕ) → HasIt line other finding → HasAtAnyRate line other finding → counts_for line full other finding ≡ true
-      → ¬ IsEarlier other variant
+  pub first : (other : List ℕ) → HasAtAnyRate line other finding → counts_for line full other finding ≡ true → ¬ IsEarlier other variant
   pub most : (other : List ℕ) (more : LineFinding) → HasIt line other more → IsSure line more → rank_of more ≡ rank_of finding
       → amount_of more ≤ amount_of finding
 
@@ -106,7 +105,11 @@ IsCheckOf line (Found reported looked) = SomePossible line × AreLookedFor line 
 
 -- ---- laws
 
+-- these are the findings of a variant: none
+pub record HasNothing (line : ProductLine) (variant : List ℕ) : Type 0 where
+  pub none : AreVariantFindings line variant []
+  pub alone : (findings : List LineFinding) → AreVariantFindings line variant findings → findings ≡ []
+
 -- where nothing is reported, no possible variant has a finding
 abbrev pub NothingReportedIsNothingFound : Type 0
-NothingReportedIsNothingFound = (line : ProductLine) → AreReported line None [] → (variant : List ℕ) → IsPossible line variant
-    → (findings : List LineFinding) → AreVariantFindings line variant findings → findings ≡ []
+NothingReportedIsNothingFound = (line : ProductLine) → AreReported line None [] → (variant : List ℕ) → IsPossible line variant → HasNothing line variant

@@ -1,9 +1,9 @@
 -- What stands behind ` in` on the line of a finding is a condition: each possible variant that takes it has the finding.
-use Rattle.std.specs.Prelude.{◌⊎◌, ℕ, List, Contains, Option}
+use Rattle.std.specs.Prelude.{ℕ, List, Contains, Option}
 use Rattle.j39_variants.specs.Variants.{IsTaking}
 use Rattle.j39_variants.specs.declared.line.ProductLine.{ProductLine}
 use Rattle.j39_line_condition_laws.specs.BoxedParts.{ListsNameChoices}
-use Rattle.j39_line_check.specs.LineChecks.{AreReported, HasAtAnyRate, HasIt}
+use Rattle.j39_line_check.specs.LineChecks.{AreReported, HasIt}
 use Rattle.j39_line_check.specs.declared.answer.ReportedFinding.{ReportedFinding}
 use Rattle.j39_line_in_laws.specs.ReportedConditions.{reported_with}
 
@@ -11,4 +11,4 @@ use Rattle.j39_line_in_laws.specs.ReportedConditions.{reported_with}
 abbrev pub ReportedOfLineIsHad : Type 0
 ReportedOfLineIsHad = (line : ProductLine) → ListsNameChoices line → (many : Option ℕ) (reported : List ReportedFinding) → AreReported line many reported
     → (t : ReportedFinding) → Contains reported t → (variant : List ℕ) → IsTaking line (reported_with line t.finding t.variant.items) variant
-    → HasAtAnyRate line variant t.finding ⊎ HasIt line variant t.finding
+    → HasIt line variant t.finding

@@ -11,3 +11,4 @@ pub mod Picking
 pub mod PlacesInFile
 pub mod Possible
 pub mod Suffices
+pub mod VariantsExist

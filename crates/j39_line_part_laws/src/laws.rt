@@ -1,4 +1,4 @@
-//! The plan of a variant is a part of that of each variant that covers it.
+//! Each variant has a plan and findings, and its plan is a part of that of each variant that covers it.
 ghost use Rattle.std.specs.Prelude.{◌≡◌, ℕ, List, true};
 ghost use Rattle.j39_line_findings.specs.LineFound.{AreVariantFindings};
 ghost use Rattle.j39_line_findings.specs.declared.line_finding.LineFinding.{LineFinding};
@@ -46,4 +46,12 @@ pub fn each_variant_has_a_full_cover()
 /// any possible one.
 pub fn full_variants_suffice_but_for_absence()
     ensures { (line : ProductLine) → FullVariantsSuffice line }
+{}
+
+/// Each variant has a plan, and a list of all its findings: so what laws say of each plan of a variant, and of each such
+/// list, they say of some.
+pub fn variants_have_findings()
+    ensures plans { (line : ProductLine) (variant : List ℕ) → (plan : Plan) × IsVariantPlan line variant plan }
+    ensures findings { (line : ProductLine) (variant : List ℕ) → (findings : List LineFinding)
+        × AreVariantFindings line variant findings }
 {}

@@ -3,15 +3,12 @@ use Rattle.std.specs.Prelude.{◌≡◌, ◌≢◌, ◌⊎◌, ℕ, List, [], �
 use Rattle.j39_findings.specs.Findings.{Clean}
 use Rattle.j39_load.specs.BusTimes.{timing_of}
 use Rattle.j39_load.specs.LoadFindings.{AreLoadFindings}
-use Rattle.j39_load.specs.declared.findings.load_finding.LoadFinding.{LoadFinding}
 use Rattle.j39_network.specs.declared.plan.Plan.{Plan}
 use Rattle.j39_variants.specs.declared.line.ProductLine.{ProductLine}
 use Rattle.j39_variants.specs.VariantPlans.{IsVariantPlan}
 use Rattle.j39_line_findings.specs.FullVariants.{alternatives_of}
 use Rattle.j39_line_findings.specs.PossibleVariants.{IsPossible}
 use Rattle.j39_line_findings.specs.MissedNeeds.{is_some_need_missed}
-use Rattle.j39_line_findings.specs.There.{IsWhatIsThere}
-use Rattle.j39_line_findings.specs.declared.there.WhatIsThere.{WhatIsThere}
 use Rattle.j39_line_check.specs.LineChecks.{AreReported, SomePossible}
 use Rattle.j39_line_check.specs.declared.answer.ReportedFinding.{ReportedFinding}
 use Rattle.j39_line_text.specs.WitnessLines.{findings_of_line_text}
@@ -34,17 +31,17 @@ no_variant_text = codes "F29 NoVariant\nfindings 1\n"
 
 -- ---- a line in which nothing is wrong
 
--- the plan of a variant is clean and certified, and each need that is asked for in the variant is in it
-pub record IsCertifiedPlan (line : ProductLine) (variant : List ℕ) (plan : Plan) (load : List LoadFinding) : Type 0 where
+-- a plan is clean and certified, and nothing is found of its load
+pub record IsCertifiedPlan (plan : Plan) : Type 0 where
   pub clean : Clean plan
-  pub unhurried : load ≡ []
+  pub unhurried : AreLoadFindings plan (timing_of plan) []
   pub certified : IsCertified plan
-  pub asked : is_some_need_missed line variant ≡ false
 
--- whatever its plan and all that is found of its load are
-abbrev pub IsCertifiedVariant : ProductLine → List ℕ → Type 0
-IsCertifiedVariant line variant = (there : WhatIsThere) (plan : Plan) (load : List LoadFinding) → IsWhatIsThere line variant there
-    → IsVariantPlan line variant plan → AreLoadFindings plan (timing_of plan) load → IsCertifiedPlan line variant plan load
+-- a variant has a plan, each plan of it is so, and each need that is asked for in the variant is in it
+pub record IsCertifiedVariant (line : ProductLine) (variant : List ℕ) : Type 0 where
+  pub planned : (plan : Plan) × IsVariantPlan line variant plan
+  pub each : (plan : Plan) → IsVariantPlan line variant plan → IsCertifiedPlan plan
+  pub asked : is_some_need_missed line variant ≡ false
 
 -- nothing is wrong with the plan of any possible variant, and some variant is
 pub record IsCertifiedLine (line : ProductLine) : Type 0 where
