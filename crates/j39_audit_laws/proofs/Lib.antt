@@ -6,6 +6,7 @@ pub mod Frames
 pub mod Hits
 pub mod Idle
 pub mod InTurn
+pub mod JudgedFlows
 pub mod KeptParts
 pub mod KeptPauses
 pub mod Lines

@@ -5,6 +5,7 @@ pub mod ExactClocks
 pub mod FoundForSure
 pub mod FoundLines
 pub mod InTurn
+pub mod JudgedFlows
 pub mod KeptLogs
 pub mod KeptParts
 pub mod KeptStreams

@@ -2,6 +2,7 @@
 #![tactic(auto)]
 
 mod laws;
+mod plan_laws;
 
 pub use laws::{
     an_audit_has_one_text, deaf_is_exact, idle_marks_are_right, kept_pauses_are_not_silent_by_load,
@@ -16,3 +17,4 @@ pub use laws::{
     who_sends_by_the_plan_is_not_accused, who_sends_in_turn_is_not_silent,
     whole_logs_of_kept_periods_are_not_near, whole_logs_of_kept_plans_are_not_near,
 };
+pub use plan_laws::{silence_is_told_of_flows_that_show_it, timed_flows_are_judged_by_load};

@@ -13,7 +13,8 @@ use Rattle.j39_network.specs.declared.plan.need_plan.NeedPlan.{NeedPlan}
 use Rattle.j39_network.specs.declared.plan.request_plan.RequestPlan.{RequestPlan}
 use Rattle.j39_network.specs.declared.plan.unit_plan.UnitPlan.{UnitPlan}
 use Rattle.j39_part_laws.proofs.LoadsExist.{some_load_findings}
-use Rattle.j39_variants.specs.VariantPlans.{IsCopyOfGroup, IsCopyOfMeaning, IsVariantPlan, flags, group_places, moved_flow, moved_need, moved_request, picked, unit_places}
+use Rattle.j39_variants.specs.VariantPlans.{IsCopyOfGroup, IsCopyOfMeaning, IsVariantPlan, flags, group_places, moved_flow, moved_need}
+use Rattle.j39_variants.specs.VariantPlans.{moved_request, picked, unit_places}
 use Rattle.j39_variants.specs.declared.line.ProductLine.{ProductLine}
 use Rattle.j39_variants.proofs.Derived.{few_groups, few_moved, few_units, flows_inside, groups_of_needs, labels_of_groups, labels_of_units, requests_inside}
 use Rattle.j39_variants.proofs.Derived.{senders_of_needs, signals_of_needs, units_of_needs}
