@@ -19,13 +19,14 @@ import tempfile
 
 sys.dont_write_bytecode = True
 import crates
+import pairs_of_audits
 import pairs_of_lines
 import pairs_of_load
 import pairs_of_logs
 import pairs_of_vehicles
 from turned import Pair, Turn
 
-PAIRS = (*pairs_of_load.PAIRS, *pairs_of_vehicles.PAIRS, *pairs_of_logs.PAIRS, *pairs_of_lines.PAIRS)
+PAIRS = (*pairs_of_load.PAIRS, *pairs_of_vehicles.PAIRS, *pairs_of_logs.PAIRS, *pairs_of_lines.PAIRS, *pairs_of_audits.PAIRS)
 
 
 def libraries_of_kit() -> str:
