@@ -214,7 +214,7 @@ module _ (timing : Timing) (f : LoneFlow) (some : 1 ≤ f.width) (clock : IsTrue
       jitter_at_most = let at_once = (pace own).at_once in omega (arith, at_once);
     };
     sent_on = λ p in_p is sent. (suits.inside, suits.some_bits, let one = suits.single in omega (arith, one));
-    spaced = λ p q in_p in_q differ is_p is_q own source turn. steps p q f.width ((streams_of timing all).stream f.flow).period (pace own).period differ;
+    spaced = λ p q in_p in_q differ is_p is_q own source turn is_spaced. steps p q f.width ((streams_of timing all).stream f.flow).period (pace own).period differ;
     frames = λ other bits among at. lone_keeps other;
   }
 
