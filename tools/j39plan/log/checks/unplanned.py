@@ -4,6 +4,7 @@ import math
 from bisect import bisect_left, bisect_right
 from collections import Counter
 from collections.abc import Mapping
+from dataclasses import dataclass, field
 from typing import NamedTuple
 
 from j39plan import program
@@ -80,8 +81,15 @@ def least_behind(identifier: int, within: dict[int, int], greatest: dict[int, in
     return min((bound for number, bound in within.items() if greatest[number] > identifier), default=None)
 
 
-# The times of frames and the addresses that they come from.
-Came = tuple[list[int], list[int]]
+@dataclass(slots=True)
+class Came:
+    """Frames that count for the same flows: the places of these, with how many frames in all there may be more than the most so far, when each came, and from
+    which address."""
+
+    places: list[int]
+    due: float
+    times: list[int] = field(default_factory=list)
+    sources: list[int] = field(default_factory=list)
 
 
 class Most(NamedTuple):
@@ -107,61 +115,75 @@ class Unplanned:
     def __init__(self, tables: Tables, bounds: list[Bound], found: Found) -> None:
         self._flows, self._timing, self._bounds, self._found = tables.flows, tables.timing, bounds, found
         self._longest = max((bound.within for bound in bounds), default=0)
-        self._limits = sorted({bound.identifier for bound in bounds})
-        self._came: list[Came] = [([], []) for _ in self._limits]  # the frames below each of these identifiers
-        self._into: dict[int, list[Came]] = {}  # where those of an identifier count
-        self._below = [self._came[self._limits.index(bound.identifier)] for bound in bounds]
+        self._limits = sorted({bound.identifier for bound in bounds}) if tables.timing else []
+        self._came: dict[int, Came] = {}  # by how many of these an identifier isn't below
+        self._kinds: dict[int, Came] = {}  # the same by identifiers
+        self._below: list[list[Came]] = [[] for _ in bounds]  # the frames that count for each flow
         self._most: dict[int, Most] = {}  # of each flow the most that came within its bound
         self._mosts = [tables.timing.unplanned if tables.timing else 0] * len(bounds)  # how many that is, or what the plan allows
         self._frames = 0  # how many came in all
         self._dues = [0] * len(bounds)  # with which one more than the most may have come of each flow
-        self._due: float = 0 if bounds and tables.timing else math.inf  # and of any
         self._is_below = [any(is_within(bound, other) for other in bounds) for bound in bounds]
-        self._left = list(range(len(bounds)))  # the flows of which more are looked for
         self._last = 0
 
     def came(self, line: int, at: int | None, identifier: int) -> None:
         """A frame that isn't planned."""
-        if at is None or self._due == math.inf:
+        kind = self._kinds.get(identifier) or self._kind_of(identifier)
+        if at is None or kind.due == math.inf:
             return
         if at < self._last:
             self._begins_anew()
         self._last = at
-        into = self._into.get(identifier)
-        if into is None:
-            into = self._into[identifier] = self._came[bisect_right(self._limits, identifier):]
-        for times, sources in into:
-            times.append(at)
-            sources.append(identifier & 0xFF)
+        kind.times.append(at)
+        kind.sources.append(identifier & 0xFF)
         self._frames += 1
-        if self._frames >= self._due:
-            self._count(line, at)
+        if self._frames >= kind.due:
+            self._count(kind, line, at)
+
+    def _kind_of(self, identifier: int) -> Came:
+        """The frames that count for the same flows as one with this identifier."""
+        first = bisect_right(self._limits, identifier)
+        kind = self._came.get(first)
+        if kind is None:
+            places = [place for place, bound in enumerate(self._bounds) if bound.identifier > identifier and self._limits]
+            kind = self._came[first] = Came(places, 0 if places else math.inf)
+            for place in places:
+                self._below[place].append(kind)
+        self._kinds[identifier] = kind
+        return kind
 
     def _begins_anew(self) -> None:
         """Time goes back: what came before isn't counted with what comes now."""
-        for times, sources in self._came:
-            times.clear()
-            sources.clear()
+        for kind in self._came.values():
+            kind.times.clear()
+            kind.sources.clear()
 
-    def _count(self, line: int, at: int) -> None:
+    def _count(self, kind: Came, line: int, at: int) -> None:
         """How many came within the bound of each flow of which it may be more than the most so far: each frame adds one at most. Of a flow whose frames all count
         for another one too, it is only asked whether there are too many."""
         dues, mosts, frames, bounds = self._dues, self._mosts, self._frames, self._bounds
-        for place in self._left:
+        for place in kind.places:
             if dues[place] > frames:
                 continue
             number, within, _ = bounds[place]
-            times, sources = self._below[place]
-            count = len(times) - bisect_left(times, at - within, max(len(times) - mosts[place] - 1, 0))
+            count = 0
+            for other in self._below[place]:
+                count += len(other.times) - bisect_left(other.times, at - within)
             if count > mosts[place]:
-                mosts[place], self._most[number] = count, Most(count, line, at, *Counter(sources[-count:]).most_common(1)[0])
+                mosts[place], self._most[number] = count, Most(count, line, at, *self._source_of(place, at - within))
             dues[place] = frames + mosts[place] + 1 - count
-        self._left = [place for place in self._left if not self._is_below[place] or bounds[place].number not in self._most]
-        self._due = min(dues[place] for place in self._left)
-        for times, sources in self._came:
-            if len(times) > KEPT:
-                first = bisect_left(times, at - self._longest)
-                del times[:first], sources[:first]
+        kind.places = [place for place in kind.places if not self._is_below[place] or bounds[place].number not in self._most]
+        kind.due = min(dues[place] for place in kind.places)
+        if len(kind.times) > KEPT:
+            first = bisect_left(kind.times, at - self._longest)
+            del kind.times[:first], kind.sources[:first]
+
+    def _source_of(self, place: int, since: int) -> tuple[int, int]:
+        """The address from which most frames come since a time that count for a flow, with how many these are."""
+        sources = Counter[int]()
+        for kind in self._below[place]:
+            sources.update(kind.sources[bisect_left(kind.times, since):])
+        return sources.most_common(1)[0]
 
     def end(self, units: Mapping[int | None, str]) -> None:
         """Tells of the flow that most may go before, and who sends most of them, by the units' addresses."""
