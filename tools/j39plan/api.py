@@ -39,6 +39,8 @@ from j39plan.vehicle.tables import Need as VehicleNeed
 if TYPE_CHECKING:
     import pandas
 
+    from j39plan.inside import Session
+
 __all__ = [
     "Accused", "Acknowledgement", "Age", "Asking", "Audit", "Claim", "Code", "Delay", "Deviation", "Drive", "Finding", "FirstPlan", "Flow", "Forward", "Frame",
     "Gateway", "Group", "Load", "Message", "Need", "Notice", "Plan", "Reading", "Readings", "Refused", "Request", "Signal", "Stand", "Text", "Unit", "Vehicle",
@@ -197,14 +199,12 @@ def follow(plan: Plan, log: Name, *, all_frames: bool = False, interface: str | 
     midst; `OSError` where the log can't be opened.
     """
     log, groups, counts, ended = os.fspath(log), {group.label: group for group in _plan(plan).groups}, reports.Counts(), _Ended()
-    with open(log, "rb"), _with_program(), program.file_of(plan.text) as copy, _followed(copy, log, all_frames, interface, counts) as process:
-        assert process.stdout is not None and process.stderr is not None
-        with io.TextIOWrapper(process.stdout, "ascii") as lines:
-            for report in reports.reports_of(ended.passed(lines), plan.tables, counts):
-                yield told_of(report, groups)
-        said = process.stderr.read().decode(errors="replace").strip()
-    if process.returncode:
-        raise Refused(process.returncode, ended.refusal or f"{log}: {said}")
+    with open(log, "rb"), _with_program(), program.file_of(plan.text) as copy, \
+            contextlib.closing(_followed(copy, log, all_frames, interface, counts, ended)) as lines:
+        for report in reports.reports_of(lines, plan.tables, counts):
+            yield told_of(report, groups)
+    if ended.status:
+        raise Refused(ended.status, ended.refusal or f"{log}: {ended.said}")
     if not os.path.isfile(log):  # a pipe, which is read
         _notice(counts.told())
         return
@@ -215,10 +215,31 @@ def follow(plan: Plan, log: Name, *, all_frames: bool = False, interface: str | 
     _notice(told)
 
 
-@contextlib.contextmanager
-def _followed(plan: str, log: str, all_frames: bool, interface: str | None, counts: reports.Counts) -> Iterator[subprocess.Popen[bytes]]:
-    """The program as it follows a log, of which an interface may be chosen; it is ended where nobody wants its answer any more."""
-    words = [program.path(), "follow", *(["--all"] if all_frames else []), "--", plan, log if interface is None else program.INPUT]
+def _followed(plan: str, log: str, all_frames: bool, interface: str | None, counts: reports.Counts, ended: _Ended) -> Generator[str, None, None]:
+    """The lines that `follow` writes of a log, of which an interface may be chosen."""
+    options = ["--all"] if all_frames else []
+    session = program.session(["follow", *options, "--", plan, program.INPUT], plan)
+    if session:
+        yield from _followed_inside(session, log, interface, counts, ended)
+    else:
+        yield from _followed_beside(["follow", *options, "--", plan], log, interface, counts, ended)
+
+
+def _followed_inside(session: Session, log: str, interface: str | None, counts: reports.Counts, ended: _Ended) -> Iterator[str]:
+    """The same by a session."""
+    with session, open(log, "rb") if interface is None else whole(log) as file:
+        part = None if interface is None else OneInterface(file, interface)
+        pieces = reports.as_it_comes(file) if part is None else reports.in_blocks(reports.as_it_comes(part))
+        yield from ended.passed(io.TextIOWrapper(session.answer(pieces), "ascii"))
+        status, said = session.ended()
+    ended.ends(status, said)
+    if part:
+        counts.pass_over(part)
+
+
+def _followed_beside(words: list[str], log: str, interface: str | None, counts: reports.Counts, ended: _Ended) -> Iterator[str]:
+    """The same by a process, which is ended where nobody wants its answer any more."""
+    words = [program.path(), *words, log if interface is None else program.INPUT]
     source = subprocess.DEVNULL if interface is None else subprocess.PIPE
     with subprocess.Popen(words, stdin=source, stdout=subprocess.PIPE, stderr=subprocess.PIPE) as process, contextlib.ExitStack() as opened:
         writer = None
@@ -227,7 +248,10 @@ def _followed(plan: str, log: str, all_frames: bool, interface: str | None, coun
             writer = reports.Writer(reports.as_it_comes(part), process.stdin, False)
             writer.start()
         try:
-            yield process
+            assert process.stdout is not None and process.stderr is not None
+            with io.TextIOWrapper(process.stdout, "ascii") as lines:
+                yield from ended.passed(lines)
+            said = process.stderr.read()
         except BaseException:
             process.kill()
             raise
@@ -235,6 +259,7 @@ def _followed(plan: str, log: str, all_frames: bool, interface: str | None, coun
             if writer:
                 writer.close()
                 counts.pass_over(part)
+    ended.ends(process.returncode, said)
 
 
 def signals(plan: Plan, log: Name, names: str | Iterable[str] = (), *, interface: str | None = None) -> Iterator[dict[str, Any]]:
@@ -435,10 +460,10 @@ def log2plan(log: Name | Iterable[Name], *, groups: Iterable[Name] = (), dbc: It
 
 
 class _Ended:
-    """The lines of `follow`, of which a refusal is kept and not passed on."""
+    """How `follow` ended: its status and standard error; and the refusal among its lines, which is kept and not passed on."""
 
     def __init__(self) -> None:
-        self.refusal = ""
+        self.status, self.said, self.refusal = 0, "", ""
 
     def passed(self, lines: Iterable[str]) -> Iterator[str]:
         """The lines but a refusal."""
@@ -447,6 +472,10 @@ class _Ended:
                 self.refusal = line.strip()
             else:
                 yield line
+
+    def ends(self, status: int, said: bytes) -> None:
+        """It has ended."""
+        self.status, self.said = status, said.decode(errors="replace").strip()
 
 
 @contextlib.contextmanager

@@ -18,7 +18,7 @@ from typing import IO, TYPE_CHECKING, Any, NoReturn
 from j39plan.left_out import Notes
 
 if TYPE_CHECKING:
-    from j39plan.inside import Inside
+    from j39plan.inside import Inside, Session
 
 # Exit statuses (docs/guide/TOOLS.md has all of them); those below 5 are the program's own.
 UNREADABLE, MEMORY, DEVICE, TOO_LONG, MISSING, FAULT = 2, 3, 4, 5, 69, 70
@@ -143,8 +143,7 @@ def call(words: Sequence[str]) -> tuple[int, str]:
     within = inside(name) if is_worthwhile() else None
     if within:
         status, out, errors = within.run(words)
-        with contextlib.suppress(OSError):
-            os.write(2, errors)
+        complain(errors)
         return status, out.decode()
     try:
         ended = subprocess.run([name, *words], stdin=subprocess.DEVNULL, stdout=subprocess.PIPE, check=False)
@@ -152,6 +151,24 @@ def call(words: Sequence[str]) -> tuple[int, str]:
         print(f"j39plan can't be run: {name}: {fault.strerror}", file=sys.stderr)
         sys.exit(MISSING)
     return ended.returncode, ended.stdout.decode()
+
+
+def complain(errors: bytes) -> None:
+    """Writes what the program has written to its standard error inside this process."""
+    with contextlib.suppress(OSError):
+        os.write(2, errors)
+
+
+def session(words: Sequence[str], plan: str) -> "Session | None":
+    """An order inside this process that reads this plan, and as standard input what it is handed; None where orders run by processes."""
+    within = inside(path()) if is_worthwhile() else None
+    if within is None:
+        return None
+    files = {}
+    with contextlib.suppress(OSError):  # the order tells that
+        with open(plan, "rb") as file:
+            files[plan] = file.read(INPUT_MOST + 1)
+    return within.session(words, files)
 
 
 def checked(plan: str) -> str:

@@ -1,6 +1,7 @@
 """The program inside this process, by the library of host/, and where the tools find the program on each system."""
 
 import functools
+import gzip
 import itertools
 import os
 import shutil
@@ -8,11 +9,14 @@ import subprocess
 import sys
 import threading
 import unittest
-from collections.abc import Callable
+import warnings
+from collections.abc import Callable, Iterator
 from typing import IO, Any
 from unittest import mock
 
-from j39plan import program
+import j39plan
+from j39plan import inside, program
+from j39plan.log.reports import in_blocks
 from tests.support import TOOLS, TOP, InFolder, example
 
 PLAN = example("first_plan.toml")
@@ -125,6 +129,131 @@ class Inside(InFolder):
         shutil.copy(f"{STORED}.txt", f"{damaged}.txt")
         status, _, said = self.ended(["check", PLAN], damaged, **{program.SWITCH: "1"})
         self.assertEqual((status, said.count("\n"), "can't be mapped: -4" in said), (69, 1, True), said)
+
+
+class Logs(InFolder):
+    """What the tools tell of logs is the same by processes and by sessions inside this one."""
+
+    PLAN, LOG = example("two_units_one_address.toml"), example("two_units_one_address.drive.log")
+
+    setUpClass = Inside.setUpClass
+
+    def told(self, tool: str, *words: str, text: bytes | None = None) -> tuple[int, bytes, bytes]:
+        """What a tool tells inside and by processes, which is the same: status, standard output and standard error."""
+        ended = []
+        for asked in ("1", "0"):
+            environment = {**os.environ, "J39PLAN": STORED, program.SWITCH: asked}
+            ran = subprocess.run([sys.executable, os.path.join(TOOLS, tool), *words], input=text, capture_output=True, env=environment, check=False)
+            ended.append((ran.returncode, ran.stdout, ran.stderr))
+        self.assertEqual(*ended, (tool, words))
+        return ended[0]
+
+    def bytes_of(self, name: str) -> bytes:
+        with open(name, "rb") as file:
+            return file.read()
+
+    def test_tools(self) -> None:
+        """A log, several of one drive, one that is packed, one that comes by a pipe, and one interface of it."""
+        packed = self.path("drive.log.gz")
+        with gzip.open(packed, "wb") as file:
+            file.write(self.bytes_of(self.LOG))
+        for words in (["signals.py", self.PLAN, self.LOG], ["signals.py", self.PLAN, self.LOG, example("two_units_one_address.defended.log")],
+                      ["signals.py", "--interface", "can1", self.PLAN, self.LOG], ["signals.py", self.PLAN, packed], ["against.py", self.PLAN, self.LOG]):
+            self.assertEqual(self.told(*words)[0], 0, words)
+        self.assertGreater(len(self.told("signals.py", self.PLAN, "-", text=self.bytes_of(self.LOG))[1]), 100)
+
+    def test_what_is_refused(self) -> None:
+        """A plan with choices, one with findings, a file that is no log, one that isn't there, and a damaged one, behind what was read of it."""
+        noise = self.write("noise.log", "no frame\n" * 9)
+        damaged = self.path("damaged.log.gz")
+        packed = gzip.compress(self.bytes_of(self.LOG) * 4000)
+        with open(damaged, "wb") as file:
+            file.write(packed[:len(packed) // 2])
+        for status, words in ((1, ["signals.py", example("truck_line.toml"), self.LOG]), (2, ["signals.py", self.PLAN, noise]), (4, ["signals.py", self.PLAN, "missing.log"]),
+                              (4, ["signals.py", self.PLAN, damaged])):
+            ended, _, said = self.told(*words)
+            self.assertEqual((ended, said.count(b"\n")), (status, 1), (words, said))
+        self.assertIn(b"the plan has findings", self.told("against.py", example("findings/f02_same_fixed_address.toml"), self.LOG)[2])
+
+    def of_module(self, do: Callable[[j39plan.Plan], Any]) -> list[Any]:
+        """What this gives of a plan inside and by processes; of a refusal its status and text."""
+        found = []
+        for asked in ("1", "0"):
+            program.inside.cache_clear()
+            with mock.patch.dict(os.environ, {program.SWITCH: asked, "J39PLAN": STORED}):
+                try:
+                    found.append(do(j39plan.read_plan(self.PLAN)))
+                except j39plan.Refused as refused:
+                    found.append((refused.status, str(refused)))
+        program.inside.cache_clear()
+        return found
+
+    def test_the_module(self) -> None:
+        def told(plan: j39plan.Plan) -> list[str]:
+            return [str(report) for words in ({}, {"all_frames": True}, {"interface": "can1"}) for report in j39plan.follow(plan, self.LOG, **words)]
+
+        def of_no_log(plan: j39plan.Plan) -> list[Any]:
+            return list(j39plan.follow(plan, self.PLAN))
+
+        for do in (told, of_no_log, functools.partial(j39plan.drive, log=self.LOG), functools.partial(j39plan.drive, log=self.LOG, interface="can1")):
+            with warnings.catch_warnings():
+                warnings.simplefilter("ignore")
+                inside, beside = self.of_module(do)
+            self.assertEqual(inside, beside)
+
+    def test_no_process_is_started(self) -> None:
+        def first(plan: j39plan.Plan) -> str:
+            with mock.patch("subprocess.Popen", side_effect=AssertionError):
+                reports = j39plan.follow(plan, self.LOG)
+                told = str(next(reports))
+                reports.close()  # in the midst: the order is ended
+            return told
+
+        program.inside.cache_clear()
+        self.addCleanup(program.inside.cache_clear)
+        with mock.patch.dict(os.environ, {program.SWITCH: "1", "J39PLAN": STORED}):
+            self.assertIn("EEC1", first(j39plan.read_plan(self.PLAN)))
+
+    def session(self, words: list[str]) -> inside.Session:
+        """A session of a program of its own."""
+        return inside.Inside(LIBRARY, STORED, None).session(words, {self.PLAN: self.bytes_of(self.PLAN)})
+
+    def test_pieces(self) -> None:
+        """Of any length they give one text; a session that has ended takes no more."""
+        log, words = self.bytes_of(self.LOG), ["follow", "--", self.PLAN, program.INPUT]
+        whole = subprocess.run([STORED, *words], input=log, capture_output=True, check=True).stdout
+        for size in (1, 7, 4096):
+            with self.session(words) as session:
+                self.assertEqual(session.answer(log[at:at + size] for at in range(0, len(log), size)).read(), whole)
+                self.assertEqual((session.ended(), session.feed(b"more")), ((0, b""), b""))
+
+    def test_a_refusal_before_the_log(self) -> None:
+        """It is told, however much of the log is there, and nothing more is taken of that."""
+        taken: list[int] = []
+        with self.session(["follow", "--", "missing.toml", program.INPUT]) as session:
+            self.assertEqual(session.answer(taken.append(number) or b"" for number in range(3)).read(), b"")  # type: ignore[func-returns-value]
+            self.assertEqual((session.ended(), taken), ((4, DEVICE.encode()), [0]))
+
+    def test_a_fault_of_the_log(self) -> None:
+        """What was read before it is told; then it is raised."""
+        def pieces() -> Iterator[bytes]:
+            yield b"(1.0) can0 0CF00400#FFFFFFE02EFFFFFF\n"
+            raise OSError("gone")
+
+        with self.session(["follow", "--", self.PLAN, program.INPUT]) as session:
+            self.assertIn(b"group EEC1 from ENGINE", session.answer(in_blocks(pieces())).read())
+            with self.assertRaisesRegex(OSError, "gone"):
+                session.ended()
+
+    def test_two_at_once(self) -> None:
+        """And one that is dropped in the midst, while its program is freed."""
+        words = ["follow", "--", self.PLAN, program.INPUT]
+        with self.session(words) as first, self.session(words) as second:
+            parts = [session.feed(self.bytes_of(self.LOG)) + session.end() for session in (first, second)]
+        self.assertEqual(parts[0], parts[1])
+        dropped = self.session(words)
+        dropped.feed(b"(1.0) can0 0CF00400#FF")
+        del dropped
 
 
 class OnWindows(InFolder):

@@ -13,18 +13,21 @@ import os
 import stat
 import subprocess
 import sys
-from collections.abc import Iterator
+from collections.abc import Iterable, Iterator
 from functools import lru_cache
 from itertools import islice
-from typing import Any, NamedTuple, TypedDict
+from typing import TYPE_CHECKING, Any, NamedTuple, TypedDict
 
 from j39plan import program
 from j39plan.fleet.signals import Code, Signals, Spread
 from j39plan.log.clock import DAY, SECOND, nanoseconds
 from j39plan.log.files import OneInterface, is_packed, whole
-from j39plan.log.reports import KIND, Below, Writer, as_it_comes, below_of, identity_of, who_of
+from j39plan.log.reports import KIND, Below, Writer, as_it_comes, below_of, identity_of, in_blocks, who_of
 from j39plan.log.serial_numbers import by_kind
 from j39plan.plan.tables import Tables
+
+if TYPE_CHECKING:
+    from j39plan.inside import Session
 
 # What so many beginnings of lines mean is kept.
 KEPT = 4096
@@ -301,23 +304,38 @@ def started(plan: str, log: str, source: int) -> subprocess.Popen[bytes]:
         raise program.Refused(program.MISSING, f"j39plan can't be run: {program.path()}: {fault.strerror}") from None
 
 
-def followed(plan: str, log: str, tables: Tables, interface: str | None) -> Followed:
-    """What `follow` says of a log, or of an interface of it."""
-    found = Followed(tables)
-    is_piped = bool(interface) or is_packed(log)
-    with whole(log) as file, started(plan, "/dev/stdin" if is_piped else log, subprocess.PIPE if is_piped else subprocess.DEVNULL) as process:
+def follow_beside(found: Followed, plan: str, log: str, pieces: Iterable[bytes] | None) -> tuple[int, bytes]:
+    """Takes what a process writes of a log, or of these pieces of it: its status and standard error."""
+    with started(plan, log if pieces is None else program.INPUT, subprocess.DEVNULL if pieces is None else subprocess.PIPE) as process:
         assert process.stdout is not None and process.stderr is not None
-        part = OneInterface(file, interface) if interface else None
-        writer = Writer(as_it_comes(part or file), process.stdin, False) if process.stdin else None
+        writer = Writer(pieces, process.stdin, False) if pieces is not None and process.stdin else None
         if writer:
             writer.start()
         found.take(iter(process.stdout))
-        said = process.stderr.read().decode(errors="replace").strip()
-        status = process.wait()
+        said, status = process.stderr.read(), process.wait()
         if writer:
             writer.close()
+    return status, said
+
+
+def follow_inside(session: Session, found: Followed, pieces: Iterable[bytes]) -> tuple[int, bytes]:
+    """The same of what a session writes."""
+    with session:
+        found.take(iter(session.answer(in_blocks(pieces))))
+        return session.ended()
+
+
+def followed(plan: str, log: str, tables: Tables, interface: str | None) -> Followed:
+    """What `follow` says of a log, or of an interface of it."""
+    found, session = Followed(tables), program.session(["follow", "--", plan, program.INPUT], plan)
+    with whole(log) as file:
+        part = OneInterface(file, interface) if interface else None
+        pieces = as_it_comes(part or file)
+        status, said = follow_inside(session, found, pieces) if session else \
+            follow_beside(found, plan, log, pieces if part or is_packed(log) else None)
     if status != 0:
-        raise program.Refused(status if status > 0 else program.FAULT, said.removeprefix("j39plan: ") or f"j39plan ended with {status}")
+        why = said.decode(errors="replace").strip().removeprefix("j39plan: ")
+        raise program.Refused(status if status > 0 else program.FAULT, why or f"j39plan ended with {status}")
     found.counts["elsewhere"] += part.elsewhere if part else 0
     if found.counts["frames"] == 0 and found.counts["bad"]:
         raise program.Refused(program.UNREADABLE, "none of its lines spells a frame: is it a log of candump -L?")

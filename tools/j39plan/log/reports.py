@@ -8,12 +8,15 @@ from collections.abc import Callable, Iterable, Iterator
 from functools import lru_cache
 from itertools import islice, starmap
 from threading import Thread
-from typing import IO, Any, NamedTuple
+from typing import IO, TYPE_CHECKING, Any, NamedTuple
 
 from j39plan import program
 from j39plan.j1939 import GLOBAL_ADDRESS, identifier_of
 from j39plan.log.files import Log, OneInterface
 from j39plan.plan.tables import Group, Tables
+
+if TYPE_CHECKING:
+    from j39plan.inside import Session
 
 
 class Who(NamedTuple):
@@ -122,6 +125,9 @@ LINE, TIME, KIND, GROUP, FROM, TO = 0, 1, 2, 3, 5, 7
 # What makes a log of those of other programs.
 CONVERTER = "record it by candump -L, or make a log of ASC, BLF, TRC, MF4 or CSV by tolog.py (j39plan-tolog)"
 UNPACKED = "it is packed by gzip: read it as <(zcat FILE)"
+
+# So much of a log is taken at once.
+BLOCK = 1 << 16
 
 # A log of which so many times more lines are of other interfaces isn't read by the one with which it begins.
 GUESSED = 99
@@ -294,7 +300,7 @@ class Writer(Thread):
 
 def as_it_comes(log: io.BufferedReader | OneInterface) -> Iterator[bytes]:
     """What comes of a log, as soon as it is there."""
-    while piece := log.read1(1 << 16):
+    while piece := log.read1(BLOCK):
         yield piece
 
 
@@ -318,14 +324,51 @@ def started_for(plan: str, log: Log, options: Iterable[str], is_piped: bool) -> 
         signal.signal(signal.SIGINT, log.interrupt)
 
 
+def in_blocks(pieces: Iterable[bytes]) -> Iterator[bytes]:
+    """What comes of a log, in blocks; what has come before something goes wrong, too."""
+    block = bytearray()
+    try:
+        for piece in pieces:
+            block += piece
+            if len(block) >= BLOCK:
+                yield bytes(block)
+                block.clear()
+    except Exception:
+        yield bytes(block)
+        raise
+    yield bytes(block)
+
+
 def lines_of(plan: str, log: Log, counts: Counts, fed: Callable[[Any], Iterable[bytes]] | None = None, at_once: bool = False) -> Iterator[str]:
     """The lines that `follow` writes of a log, as it is read; of all frames where `fed` hands on the log, each piece at once where that is asked for."""
+    options = ["--all"] if fed else []
+    session = program.session(["follow", *options, "--", plan, program.INPUT], plan)
+    return lines_inside(session, log, counts, fed) if session else lines_beside(plan, log, counts, fed, at_once)
+
+
+def lines_inside(session: "Session", log: Log, counts: Counts, fed: Callable[[Any], Iterable[bytes]] | None) -> Iterator[str]:
+    """The same by a session, which is handed each block of a log when its lines are wanted, and of one that is still to come each piece."""
+    whole = io.BufferedReader(log, BLOCK)
+    part = OneInterface(whole, log.interface) if log.interface is not None else None
+    pieces = (fed or as_it_comes)(part or whole)
+    with session:
+        yield from io.TextIOWrapper(session.answer(pieces if log.is_live else in_blocks(pieces)), "ascii")
+        status, said = session.ended()
+    program.complain(said)
+    if part:
+        counts.pass_over(part)
+    if status != 0:
+        raise program.Refused(status)
+
+
+def lines_beside(plan: str, log: Log, counts: Counts, fed: Callable[[Any], Iterable[bytes]] | None, at_once: bool) -> Iterator[str]:
+    """The same by a process, which reads the log meanwhile."""
     is_piped = fed is not None or log.is_live or log.is_unpacked or len(log.files) > 1 or log.interface is not None
     reader = started_for(plan, log, ["--all"] if fed else [], is_piped)
     assert reader.stdout is not None
     writer = part = None
     if reader.stdin:
-        whole = io.BufferedReader(log, 1 << 16)
+        whole = io.BufferedReader(log, BLOCK)
         part = OneInterface(whole, log.interface) if log.interface is not None else None
         writer = Writer((fed or as_it_comes)(part or whole), reader.stdin, log.is_live and (at_once or fed is None))
     try:

@@ -7,7 +7,7 @@ import os
 import subprocess
 from collections import Counter
 from collections.abc import Iterable, Iterator, Mapping
-from typing import NamedTuple
+from typing import TYPE_CHECKING, NamedTuple
 
 from j39plan import program
 from j39plan.j1939 import CONNECTION_MANAGEMENT, FRAME_BYTES, GLOBAL_ADDRESS, NULL_ADDRESS, destination_in, pgn_in
@@ -20,6 +20,9 @@ from j39plan.log.clock import nanoseconds
 from j39plan.log.files import LINE_MOST, Log, whole
 from j39plan.plan.answer_grammar import Line
 from j39plan.plan.tables import Tables
+
+if TYPE_CHECKING:
+    from j39plan.inside import Session
 
 MICROSECOND = 1000
 
@@ -102,37 +105,66 @@ class Beside:
         return [line._replace(parts={**line.parts, **parts}) for parts in named] or [line]
 
 
+class Process:
+    """A process of the program that reads what it is handed, as a session does."""
+
+    def __init__(self, words: list[str]) -> None:
+        # A group of its own: an interrupt from the keyboard is to end the log, and not what reads it.
+        self._process = subprocess.Popen([program.path(), *words], stdin=subprocess.PIPE, stdout=subprocess.PIPE, start_new_session=True)
+        self.status: int | None = None
+
+    def feed(self, piece: bytes) -> bytes:
+        """Hands it a piece. A program that has answered already, as of a plan with findings, reads no more."""
+        assert self._process.stdin is not None
+        with contextlib.suppress(BrokenPipeError):
+            self._process.stdin.write(piece)
+        return b""
+
+    def end(self) -> bytes:
+        """What it writes in all."""
+        answer = self._process.communicate()[0]
+        self.status = self._process.returncode
+        return answer
+
+    def complaints(self) -> bytes:
+        """Its standard error, which it has written itself."""
+        return b""
+
+    def close(self) -> None:
+        """Ends it, where it hasn't ended."""
+        self._process.kill()
+        self._process.wait()
+
+
 class Audit:
     """The program that audits a log, beside the one that follows it."""
 
     def __init__(self, plan: str, is_part: bool) -> None:
         answer = program.call(["audit", "--", plan, os.devnull])[1]
         self.findings = "" if lines_of(answer) else answer.partition("\n")[0]  # what `check` finds, where `audit` answers that
-        words = [program.path(), "audit", *["--part"] * is_part, "--", plan, "/dev/stdin"]
-        # A group of its own: an interrupt from the keyboard is to end the log, and not what reads it.
-        self._process = subprocess.Popen(words, stdin=subprocess.PIPE, stdout=subprocess.PIPE, start_new_session=True)
+        words = ["audit", *["--part"] * is_part, "--", plan, program.INPUT]
+        self._order: Session | Process = program.session(words, plan) or Process(words)
+        self._answer = b""
         self.lines: list[Line] = []
 
     def __enter__(self) -> "Audit":
         return self
 
     def __exit__(self, *_: object) -> None:
-        self._process.kill()
-        self._process.wait()
+        self._order.close()
 
     def pieces(self, pieces: Iterable[bytes]) -> Iterator[bytes]:
-        """Hands on what comes of a log. A program that has answered already, as of a plan with findings, reads no more of it."""
-        assert self._process.stdin is not None
+        """Hands on what comes of a log."""
         for piece in pieces:
-            with contextlib.suppress(BrokenPipeError):
-                self._process.stdin.write(piece)
+            self._answer += self._order.feed(piece)
             yield piece
 
     def end(self) -> None:
         """The log has ended: what it accuses of."""
-        answer, status = self._process.communicate()[0].decode(), self._process.returncode
+        answer, status = (self._answer + self._order.end()).decode(), self._order.status
+        program.complain(self._order.complaints())
         if status not in (0, 1):
-            raise program.Refused(status if status > 0 else program.FAULT)
+            raise program.Refused(status if status is not None and status > 0 else program.FAULT)
         self.lines = [line for line in lines_of(answer) if line.word("word") in PREMISES]
 
 
