@@ -25,6 +25,8 @@ PACKAGE = os.path.join(TOOLS, "package")
 COMMANDS = ["show", "variant", "check", "addresses", "load", "run", "read", "follow", "audit", "frame", "vehicle", "help"]
 INSTALLED = ["where", "answer", "startup", "dbc2plan", "log2plan", "plan2dbc", "join", "forwards", "compare", "variant", "mend", "against", "drift", "fleet", "table", "report", "signals", "codes", "plot", "tolog",
              "cut", "restbus", "probe", "lsp", "check-plans"]
+# Those that `j39plan TOOL` runs: `variant` is a command of the program.
+TOOL_WORDS = [tool for tool in INSTALLED if tool != "variant"]
 PAGE = text_of(os.path.join(TOP, "docs", "guide", "TOOLS.md"))
 
 # Whose package it is in these tests.
@@ -290,11 +292,11 @@ class Completions(InFolder):
         return lines_of("bash", "-c", script + 'printf "%s\\n" "${COMPREPLY[@]}"', "bash", *words, cwd=cwd, env=self.environment())
 
     def test_bash(self) -> None:
-        self.assertEqual(self.complete_bash("j39plan", ""), COMMANDS + ["--help", "--version"])
-        self.assertEqual(self.complete_bash("j39plan", "r"), ["run", "read"])
+        self.assertEqual(self.complete_bash("j39plan", ""), [*COMMANDS, *TOOL_WORDS, "--help", "--version"])
+        self.assertEqual(self.complete_bash("j39plan", "r"), ["run", "read", "report", "restbus"])
         self.assertEqual(self.complete_bash("j39plan", "check", "plan.s", cwd=os.path.join(TOOLS, "j39plan")), ["plan.schema.json"])
         self.assertEqual(self.complete_bash("j39plan", "v"), ["variant", "vehicle"])
-        self.assertEqual(self.complete_bash("j39plan", "help", "f"), ["follow", "frame"])
+        self.assertEqual(self.complete_bash("j39plan", "help", "f"), ["follow", "frame", "forwards", "fleet"])
         self.assertEqual(self.complete_bash("j39plan", "follow", "--"), ["--all"])
         self.assertEqual(self.complete_bash("j39plan", "audit", "--"), ["--part", "--stamps"])
         self.assertEqual(self.complete_bash("j39plan", "audit", "--part", "--s"), ["--stamps"])
@@ -335,11 +337,18 @@ class Completions(InFolder):
         self.assertEqual(self.complete_bash("j39plan-answer", "v"), ["vehicle"])
         self.assertEqual(self.complete_bash("j39plan-report", "plan.toml", "-o", "where."), ["where.py"])
 
+    def test_bash_of_tools_as_words(self) -> None:
+        """Behind `j39plan TOOL` is offered what is offered behind `j39plan-TOOL`."""
+        for words in (["where", "--g"], ["answer", "l"], ["dbc2plan", "--kind", ""], ["report", "plan.toml", "-o", "where."], ["signals", "a.toml", "a"]):
+            offered = self.complete_bash(f"j39plan-{words[0]}", *words[1:])
+            self.assertEqual((self.complete_bash("j39plan", *words), bool(offered)), (offered, True), words)
+        self.assertEqual(self.complete_bash("j39plan", "variant", "--", "--l"), [""])
+
     @unittest.skipUnless(shutil.which("fish"), "fish isn't there: apt-get install fish")
     def test_fish(self) -> None:
         script = f"source {PACKAGE}/completions/j39plan.fish; complete -C '{{}}'"
         offered = lines_of("fish", "--no-config", "-c", script.format("j39plan "), cwd=TOOLS)
-        self.assertEqual(sorted(line.split("\t")[0] for line in offered), sorted(COMMANDS))
+        self.assertEqual(sorted(line.split("\t")[0] for line in offered), sorted([*COMMANDS, *TOOL_WORDS]))
         offered = lines_of("fish", "--no-config", "-c", script.format("j39plan check plan.s"), cwd=os.path.join(TOOLS, "j39plan"))
         self.assertEqual([line.split("\t")[0] for line in offered], ["plan.schema.json"])
 
@@ -350,6 +359,18 @@ class Completions(InFolder):
             shown = re.findall(r"--[a-z][a-z-]*", "\n".join(lines_of(os.path.join(TOOLS, tool if tool == "check-plans" else f"{tool}.py"), "--help")))
             offered = [line.split("\t")[0] for line in lines_of("fish", "--no-config", "-c", script.format(f"j39plan-{tool} --"), cwd=TOOLS)]
             self.assertLessEqual(set(shown), set(offered), tool)
+
+    @unittest.skipUnless(shutil.which("fish"), "fish isn't there: apt-get install fish")
+    def test_fish_of_tools_as_words(self) -> None:
+        script = f"source {PACKAGE}/completions/j39plan.fish; complete -C '{{}}'"
+        for typed in ("where --li", "answer l", "dbc2plan --kind x", "check-plans --v"):
+            by_word, by_name = (lines_of("fish", "--no-config", "-c", script.format(f"j39plan{join}{typed}"), cwd=TOOLS) for join in " -")
+            self.assertEqual((by_word, bool(by_name)), (by_name, True), typed)
+
+    @unittest.skipUnless(shutil.which("zsh"), "zsh isn't there: apt-get install zsh")
+    def test_zsh_of_tools_as_words(self) -> None:
+        self.assertRegex(self.complete_zsh("j39plan where --g"), r"(?m)^\s*--gitlab +-- ")
+        self.assertIn("write the forwards of a gateway", self.complete_zsh("j39plan f"))
 
     @unittest.skipUnless(shutil.which("zsh"), "zsh isn't there: apt-get install zsh")
     def test_zsh(self) -> None:

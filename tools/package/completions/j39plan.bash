@@ -9,7 +9,16 @@ _j39plan_files() {
   [ "${#COMPREPLY[@]}" -gt 0 ] || mapfile -t COMPREPLY < <(compgen -f -- "$word")
 }
 
+# The tools that are run by `j39plan TOOL`, too.
+_j39plan_tools='where answer startup dbc2plan log2plan plan2dbc join forwards compare mend against drift fleet table report signals codes plot tolog cut restbus probe lsp check-plans'
+
 _j39plan() {
+  if [ "$COMP_CWORD" -gt 1 ] && [[ " $_j39plan_tools " == *" ${COMP_WORDS[1]} "* ]]; then
+    COMP_WORDS=("${COMP_WORDS[0]%j39plan}j39plan-${COMP_WORDS[1]}" "${COMP_WORDS[@]:2}")
+    COMP_CWORD=$((COMP_CWORD - 1))
+    _j39plan_tool
+    return
+  fi
   local word=${COMP_WORDS[COMP_CWORD]} place=$COMP_CWORD
   COMPREPLY=()
   [ "${COMP_WORDS[1]} ${COMP_WORDS[2]}" = 'follow --all' ] && place=$((place - 1))
@@ -23,7 +32,7 @@ _j39plan() {
     place=$((COMP_CWORD - at + 2))
   fi
   if [ "$COMP_CWORD" -eq 1 ]; then
-    mapfile -t COMPREPLY < <(compgen -W 'show variant check addresses load run read follow audit frame vehicle help --help --version' -- "$word")
+    mapfile -t COMPREPLY < <(compgen -W "show variant check addresses load run read follow audit frame vehicle help $_j39plan_tools --help --version" -- "$word")
   elif [ "${COMP_WORDS[1]} $COMP_CWORD" = 'follow 2' ] && [[ $word == -* ]]; then
     COMPREPLY=(--all)
   elif [ "${COMP_WORDS[1]} $place" = 'audit 2' ] && [[ $word == -* ]]; then
@@ -36,7 +45,7 @@ _j39plan() {
       *) _j39plan_files "$word" toml ;;
     esac
   elif [ "${COMP_WORDS[1]}" = help ]; then
-    mapfile -t COMPREPLY < <(compgen -W 'show variant check addresses load run read follow audit frame vehicle' -- "$word")
+    mapfile -t COMPREPLY < <(compgen -W "show variant check addresses load run read follow audit frame vehicle $_j39plan_tools" -- "$word")
   fi
 }
 complete -F _j39plan j39plan

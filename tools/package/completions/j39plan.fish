@@ -19,9 +19,45 @@ complete -c j39plan -n '__fish_seen_subcommand_from show variant check addresses
 complete -c j39plan -n '__fish_seen_subcommand_from follow' -l all -d 'show each frame of which there is no other line, too'
 complete -c j39plan -n '__fish_seen_subcommand_from audit' -l part -d 'the log may lack frames of the bus'
 complete -c j39plan -n '__fish_seen_subcommand_from audit' -l stamps -x -d 'by how many us times differ'
-complete -c j39plan -n '__fish_seen_subcommand_from help' -a 'show variant check addresses load run read follow audit frame vehicle'
 
-# The tools.
+# The tools, as words of j39plan, behind which is offered what is offered behind their own names.
+set -g __j39plan_tools where answer startup dbc2plan log2plan plan2dbc join forwards compare mend against drift fleet table report signals codes plot tolog cut restbus probe lsp check-plans
+function __j39plan_is_tool
+    set -l words (commandline -opc)
+    test (count $words) -gt 1; and contains -- $words[2] $__j39plan_tools
+end
+function __j39plan_of_tool
+    set -l words (string escape -- (commandline -opc)[2..]) (commandline -ct)
+    complete -C "j39plan-$words"
+end
+complete -c j39plan -n __fish_use_subcommand -a where -d 'check a plan and say where in the file each answer belongs'
+complete -c j39plan -n __fish_use_subcommand -a answer -d 'write what j39plan answers of a plan or a vehicle as JSON'
+complete -c j39plan -n __fish_use_subcommand -a startup -d 'write a start-up schedule of a plan'
+complete -c j39plan -n __fish_use_subcommand -a dbc2plan -d 'write a plan from DBC, ARXML, KCD or SYM files'
+complete -c j39plan -n __fish_use_subcommand -a log2plan -d 'write a first plan from a log'
+complete -c j39plan -n __fish_use_subcommand -a plan2dbc -d 'write a plan as a DBC'
+complete -c j39plan -n __fish_use_subcommand -a join -d 'join several plans to one'
+complete -c j39plan -n __fish_use_subcommand -a forwards -d 'write the forwards of a gateway between two buses'
+complete -c j39plan -n __fish_use_subcommand -a compare -d 'compare two plans by what they mean'
+complete -c j39plan -n __fish_use_subcommand -a mend -d 'change a plan so that nothing is found in it'
+complete -c j39plan -n __fish_use_subcommand -a against -d 'say where a log isn\'t as a plan has it'
+complete -c j39plan -n __fish_use_subcommand -a drift -d 'compare two drives, as before and after an update'
+complete -c j39plan -n __fish_use_subcommand -a fleet -d 'compare many logs with a plan, at once'
+complete -c j39plan -n __fish_use_subcommand -a table -d 'write a plan as tables'
+complete -c j39plan -n __fish_use_subcommand -a report -d 'write a plan or a vehicle as one HTML page'
+complete -c j39plan -n __fish_use_subcommand -a signals -d 'write the signals of a log as a table or a file'
+complete -c j39plan -n __fish_use_subcommand -a codes -d 'say when trouble codes came and went'
+complete -c j39plan -n __fish_use_subcommand -a plot -d 'draw signals of a log over time'
+complete -c j39plan -n __fish_use_subcommand -a tolog -d 'make a log of candump -L of other programs\' files'
+complete -c j39plan -n __fish_use_subcommand -a cut -d 'write a part of a log, or logs of two loggers by one clock'
+complete -c j39plan -n __fish_use_subcommand -a restbus -d 'play the planned units on a bench'
+complete -c j39plan -n __fish_use_subcommand -a probe -d 'test on a bench whether a box is the unit of a plan'
+complete -c j39plan -n __fish_use_subcommand -a lsp -d 'serve an editor that shows plans and vehicles while they are written'
+complete -c j39plan -n __fish_use_subcommand -a check-plans -d 'check plans in a CI job'
+complete -c j39plan -n __j39plan_is_tool -a '(__j39plan_of_tool)'
+complete -c j39plan -n '__fish_seen_subcommand_from help' -a "show variant check addresses load run read follow audit frame vehicle $__j39plan_tools"
+
+# The tools by their own names.
 for tool in where answer startup dbc2plan log2plan plan2dbc join forwards compare variant mend against drift fleet table report signals codes plot tolog cut restbus probe lsp check-plans
     complete -c j39plan-$tool -l help -s h -d 'print the help'
     complete -c j39plan-$tool -l version -d 'print the version'
@@ -169,6 +205,12 @@ complete -c j39plan-check-plans -l junit -r -F -d 'write the plans as tests into
 for tool in against answer codes compare cut drift fleet mend plan2dbc plot probe report restbus signals startup table where
     complete -c j39plan-$tool -l variant -x -d 'the vehicle of a line with these alternatives'
 end
+complete -c j39plan-variant -l count -d 'say how many vehicles can be built'
 complete -c j39plan-variant -l log -r -F -d 'say of which vehicles a log can be'
 complete -c j39plan-variant -l json -d 'as a JSON object'
 complete -c j39plan-variant -l interface -x -d 'the interface that is read of a log of several'
+for tool in against drift fleet
+    complete -c j39plan-$tool -l may-be-absent -x -d 'a unit that may be off'
+end
+complete -c j39plan-drift -l events -x -d 'a flow that is sent on events alone'
+complete -c j39plan-report -l date -x -d 'the day that the page has'
