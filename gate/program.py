@@ -42,9 +42,9 @@ def library_of(program: bytes) -> str:
     return f"GLIBC {'.'.join(map(str, max(found)))}" if found else "no GLIBC"
 
 
-def record_of(program: bytes) -> dict[str, str]:
+def record_of(program: bytes, built: str = build.BUILT) -> dict[str, str]:
     """Returns what the record of a program has that was built here."""
-    return {"program": hashlib.sha256(program).hexdigest(), "sources": build.noted(build.BUILT) or "",
+    return {"program": hashlib.sha256(program).hexdigest(), "sources": build.noted(built) or "",
             "toolchain": said_by(["rt", "version"]), "library": library_of(program)}
 
 
@@ -58,13 +58,18 @@ def write() -> int:
     if not build.is_built(build.BUILT):
         build.say("the program isn't built, or it is of other sources: ./j39plan --build")
         return build.FAILED
-    # made beside its place, since the old one may be running
-    shutil.copyfile(build.BUILT, f"{STORED}.new")
-    os.chmod(f"{STORED}.new", 0o755)
-    os.replace(f"{STORED}.new", STORED)
-    with open(RECORD, "w", encoding="utf-8") as file:
-        file.writelines(f"{key} {value}\n" for key, value in record_of(bytes_of(STORED)).items())
+    keep(build.BUILT, STORED)
     return 0
+
+
+def keep(built: str, stored: str) -> None:
+    """Puts a program that was built into its place, and its record beside it."""
+    # made beside its place, since the old one may be running
+    shutil.copyfile(built, f"{stored}.new")
+    os.chmod(f"{stored}.new", 0o755)
+    os.replace(f"{stored}.new", stored)
+    with open(f"{stored}.txt", "w", encoding="utf-8") as file:
+        file.writelines(f"{key} {value}\n" for key, value in record_of(bytes_of(stored), built).items())
 
 
 def compare(tally: Tally) -> None:

@@ -47,9 +47,16 @@ void j39_free(j39_instance *it)
 {
 	if (!it)
 		return;
-	if (it->sessions)
+	if (it->sessions || it->is_busy)
 		it->is_freed = 1;
 	else
+		end(it);
+}
+
+void instance_rests(j39_instance *it)
+{
+	it->is_busy = 0;
+	if (!it->sessions && it->is_freed)
 		end(it);
 }
 

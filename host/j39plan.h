@@ -75,7 +75,7 @@ J39_API j39_instance *j39_new(void);
    J39_DONE, J39_MEMORY, J39_NO_PROGRAM or J39_OTHER; *made is NULL but of the first. */
 J39_API int j39_map(const void *program, size_t size, const char *sha256, j39_instance **made);
 
-/* Frees an instance; one with a session is kept until that is dropped. NULL is nothing. */
+/* Frees an instance; one whose order hasn't ended, as in a callback of that, or with a session, is kept until then. NULL is nothing. */
 J39_API void j39_free(j39_instance *);
 
 /* Frees the bytes of a text, which is empty then. */

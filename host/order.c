@@ -3,6 +3,7 @@
 #include "order.h"
 
 #include "calls.h"
+#include "instance.h"
 
 #include <stdlib.h>
 #include <string.h>
@@ -71,7 +72,7 @@ int order_join(order *it)
 {
 	thread_join(it->thread);
 	free(it->all_words);
-	it->instance->is_busy = 0;
+	instance_rests(it->instance);
 	return it->status;
 }
 

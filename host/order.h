@@ -11,7 +11,7 @@ struct j39_instance {
 	image program;
 	int is_busy;  /* an order hasn't ended */
 	int sessions; /* that weren't dropped */
-	int is_freed; /* by the caller, while there is such a session */
+	int is_freed; /* by the caller, while there is such an order or session */
 };
 
 typedef struct {

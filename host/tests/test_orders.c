@@ -73,6 +73,27 @@ static void while_busy(j39_instance *program)
 	CHECK(checks >= before + 3 * RACES);
 }
 
+/* An instance that is freed by a callback of its own order goes when that has ended. */
+static int64_t freeing(void *context, int file, const void *from, size_t count)
+{
+	j39_instance **program = context;
+
+	(void)file;
+	(void)from;
+	j39_free(*program);
+	*program = NULL;
+	return (int64_t)count;
+}
+
+static void freed_while_busy(void)
+{
+	j39_instance *program = j39_new();
+	j39_host host = {sizeof host, &program, NULL, NULL, freeing, NULL, NULL, NULL, NULL};
+	const char *words[] = {"--version"};
+
+	CHECK(program && j39_order(program, &host, 1, words) == J39_DONE && !program);
+}
+
 int main(int argc, char **argv)
 {
 	j39_instance *program = argc == 3 ? j39_new() : NULL;
@@ -82,6 +103,7 @@ int main(int argc, char **argv)
 		in_memory(program, argv[1]);
 		on_the_system(program, argv[1]);
 		while_busy(program);
+		freed_while_busy();
 	}
 	j39_free(program);
 	return ended("orders");

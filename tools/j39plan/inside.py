@@ -70,7 +70,7 @@ class Session:
     def __init__(self, instance: _Instance, library: Any, at: ctypes.c_void_p, words: Sequence[str], files: Mapping[str, bytes]) -> None:
         self._library, self._out = library, ctypes.POINTER(_Text)()
         # what the order reads as long as it runs
-        self._kept = instance, spelled(words), (_File * len(files))(*((encoded(name), data, len(data)) for name, data in files.items()))
+        self._kept = instance, spelled(words), (_File * len(files))(*(_File(encoded(name), data, len(data)) for name, data in files.items()))
         self._at = library.j39_begin(at, len(words), self._kept[1], INPUT, self._kept[2], len(files))
         if not self._at:
             raise MemoryError
@@ -115,7 +115,8 @@ class Session:
 
     def complaints(self) -> bytes:
         """Its standard error so far."""
-        return self._library.j39_complaints(self._at).contents.taken()
+        said: _Text = self._library.j39_complaints(self._at).contents
+        return said.taken()
 
 
 class _Answer(io.RawIOBase):

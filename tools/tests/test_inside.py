@@ -145,8 +145,9 @@ class Logs(InFolder):
             environment = {**os.environ, "J39PLAN": STORED, program.SWITCH: asked}
             ran = subprocess.run([sys.executable, os.path.join(TOOLS, tool), *words], input=text, capture_output=True, env=environment, check=False)
             ended.append((ran.returncode, ran.stdout, ran.stderr))
-        self.assertEqual(*ended, (tool, words))
-        return ended[0]
+        within, beside = ended
+        self.assertEqual(within, beside, (tool, words))
+        return within
 
     def bytes_of(self, name: str) -> bytes:
         with open(name, "rb") as file:
@@ -190,7 +191,8 @@ class Logs(InFolder):
 
     def test_the_module(self) -> None:
         def told(plan: j39plan.Plan) -> list[str]:
-            return [str(report) for words in ({}, {"all_frames": True}, {"interface": "can1"}) for report in j39plan.follow(plan, self.LOG, **words)]
+            return [str(report) for told in (j39plan.follow(plan, self.LOG), j39plan.follow(plan, self.LOG, all_frames=True), j39plan.follow(plan, self.LOG, interface="can1"))
+                    for report in told]
 
         def of_no_log(plan: j39plan.Plan) -> list[Any]:
             return list(j39plan.follow(plan, self.PLAN))

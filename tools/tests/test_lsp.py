@@ -105,6 +105,15 @@ class Shown(WithEditor):
         if len(shown) > 1:  # by the library jsonschema, where that is there
             self.assertEqual(self.editor.part(uri, shown[1]["range"]), "spn = -1")
 
+    def test_refusals_of_a_line_stand_at_its_tables(self) -> None:
+        """Alternatives that aren't there or stand twice, and tables that lack a key."""
+        text = text_of(example("line.toml"))
+        for old, new, part in (('but = ["ZF"]', 'but = ["FZ"]', 'but = ["FZ"]'), ('of = ["CUMMINS", "DETROIT"]', 'of = ["CUMMINS", "CUMMINS"]', 'of = ["CUMMINS", "CUMMINS"]'),
+                               ('with = ["DETROIT"]', 'with = ["DETROYT"]', 'with = ["DETROYT"]'), ('of = ["RETARDER"]\n', "", "[[never]]"), ('of = ["NO_RETARDER", "RETARDER"]', "of = []", "of = []")):
+            uri = self.editor.open("/p/line.toml", text.replace(old, new, 1))
+            shown = [one for one in self.editor.shown(uri) if one["severity"] == 1]
+            self.assertIn(part, [self.editor.part(uri, one["range"]).partition(" #")[0] for one in shown], (new, shown))
+
     def test_a_hint_is_information(self) -> None:
         uri = self.editor.open("/p/plan.toml", PLAN + '\n[[unit]]\nlabel = "X"\naddress = 9\nname = {}\n')
         hints = {self.editor.part(uri, one["range"]): (one["severity"], one["code"]) for one in self.editor.shown(uri)}
@@ -303,6 +312,19 @@ class Mends(WithEditor):
         with program.file_of(mended) as plan:
             self.assertEqual(program.call(["check", "--", plan])[0], 0)
         self.assertEqual(self.editor.ask("textDocument/codeAction", {**params, "context": {"diagnostics": [finding], "only": ["source.fixAll"]}}), [])
+
+    def test_mends_of_a_line(self) -> None:
+        """Of a finding of all its vehicles, and of one of some: as `mend` has them."""
+        line = TWO.replace("address = 0", "address = 1", 1) + '[[choice]]\nof = ["X", "Y"]\n' \
+            + '[[unit]]\nlabel = "C"\naddress = 0\nname = { function = 13 }\nwith = ["X"]\n'
+        for text in (line, line.replace('\nwith = ["X"]', "")):
+            uri = self.editor.open("/p/line.toml", text)
+            finding = next(one for one in self.editor.shown(uri) if one["code"] == "F2")
+            found = self.editor.ask("textDocument/codeAction", {"textDocument": {"uri": uri}, "range": finding["range"], "context": {"diagnostics": [finding]}})
+            self.assertTrue(found and found[0]["isPreferred"], finding)
+            (mended,) = self.editor.edited(found[0]["edit"]).values()
+            with program.file_of(mended) as plan:
+                self.assertEqual(program.call(["check", "--", plan])[0], 0)
 
     def test_a_search_for_which_nobody_waits_ends(self) -> None:
         uri = self.editor.open("/p/two.toml", TWO)

@@ -63,7 +63,7 @@ class Actions:
 
 def changes_of(document: Document, draft: Draft, finding: str) -> Iterator[tuple[str, list[Object]]]:
     """The mends of a finding in words, with their edits."""
-    if finding not in draft.findings or draft.source["choice"]:
+    if finding not in draft.findings:
         return
     for mend in mends_of(draft, finding)[0]:
         try:
