@@ -197,7 +197,9 @@ class Logs(InFolder):
         def of_no_log(plan: j39plan.Plan) -> list[Any]:
             return list(j39plan.follow(plan, self.PLAN))
 
-        for do in (told, of_no_log, functools.partial(j39plan.drive, log=self.LOG), functools.partial(j39plan.drive, log=self.LOG, interface="can1")):
+        drives = (functools.partial(j39plan.drive, log=self.LOG, interface=interface) for interface in (None, "can1"))
+        asked: list[Callable[[j39plan.Plan], Any]] = [told, of_no_log, *drives]
+        for do in asked:
             with warnings.catch_warnings():
                 warnings.simplefilter("ignore")
                 inside, beside = self.of_module(do)
