@@ -201,6 +201,15 @@ def holds_first(box: Any, old: Any, ends: Any, came: Any) -> None:
         old(ends, came)
 
 
+def asks_once_more(box: Any, old: Any, ends: Any, came: Any) -> None:
+    """Where no packet comes it asks for them again, once."""
+    if box.transport._receiving.get(ends) is came and box.agenda.now >= came.until and "asked" not in vars(came):
+        came.asked = True
+        box.transport._clear(ends, came)
+    else:
+        old(ends, came)
+
+
 def never_ends(box: Any, old: Any, *words: Any) -> None:
     """It waits for ever."""
 

@@ -8,7 +8,7 @@ from j39plan.bench.rest import Rest
 from j39plan.j1939 import ACKNOWLEDGEMENT, ADDRESS_CLAIMED, CONNECTION_MANAGEMENT, DATA_TRANSFER, POOL, REQUEST, destination_in, source_in
 from j39plan.log.checks.transfers import ABORT, CLEAR, RTS, WHOLE
 from tests.box_changes import (
-    EEC1, ETC2, HOURS, UNKNOWN, VI, aborts_twice, acknowledges, all_again, also, alters, answers_bam, any_packet, asked_alone, asks, asks_again,
+    EEC1, ETC2, HOURS, UNKNOWN, VI, aborts_twice, acknowledges, all_again, also, alters, answers_bam, any_packet, asked_alone, asks, asks_again, asks_once_more,
     asks_claims, at, boots, both, breaks_at, busy, changed, chooser, counts, cuts, deaf_amid, dies, drops, each_tenth, gives_to_larger,
     goes_on_behind, hears_engine, hears_much, holds_first, is_contest, keeps_next, keeps_size, late, loses_when_busy, managing, named, never_ends, not_again,
     not_now, notes_limit, notes_request, obeys, once, reclaims, second, sends, short_claims, stops_when_contested, stuck_when_held,
@@ -196,6 +196,7 @@ LAWFUL = [
     lawful("gives up where a packet comes twice", note="a packet twice: Abort 8", begin=wraps("transport", "packet", aborts_twice)),
     lawful("doesn't know the limit in an RTS", note="where the RTS allows 2", into=managing(RTS, lambda data: data[:4] + b"\xff" + data[5:])),
     lawful("holds each session before it permits", begin=wraps("transport", "_clear", holds_first)),
+    lawful("asks again before it gives up, and is busy", note="behind the RTS: Abort 3 after 2500 ms", begin=both(second(busy), wraps("transport", "_missing", asks_once_more))),
     lawful("refuses a second message by Abort 1", note="the same group amid packets: Abort 1", begin=second(busy)),
     lawful("holds a second message", note="amid packets: CTS of 0", begin=second(not_now)),
     lawful("is silent for a second message", note="amid packets: silence", begin=second(lambda *words: None)),

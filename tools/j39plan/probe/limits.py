@@ -12,8 +12,8 @@ CONTEST, CANNOT = CONTESTED / 1000, 0.25
 # How long a controller may still have frames of before; how far apart the tester holds a session, less than Th; and within which time it answers.
 QUEUED, HOLD, PROMPT = 0.05, 0.4, 0.1
 
-# After which time whatever is open has ended.
-ENDS = T2 + TR
+# After which time whatever is open has ended, behind the last word of it; and how often who receives may ask for packets again.
+ENDS, AGAIN = T2 + TR, 2
 
 # How long a box has until its first claim, and until it has found its address among held ones.
 STARTS, SETTLES = 10.0, 5.0

@@ -77,15 +77,16 @@ class Memory:
 
     def hears(self, until: float) -> Noted | None:
         """The next frame that has ended; None where none did until a time."""
+        own = self._agenda
         while not self._ended:
-            first, due = self._agenda, self._agenda.due
+            first, due = own, own.due
             if self.box and (other := self.box.agenda.due) is not None and (due is None or other < due):
                 first, due = self.box.agenda, other
             if due is None or due > until:
-                self._agenda.now = max(until, self.now)
+                own.now = max(until, own.now)
                 return None
-            self._agenda.now = max(self.now, due)
-            first.wake(self.now)
+            own.now = max(own.now, due)
+            first.wake(own.now)
         return self._ended.popleft()
 
     def power(self, is_on: bool) -> None:

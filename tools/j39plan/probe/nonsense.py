@@ -2,7 +2,7 @@
 
 from __future__ import annotations
 
-from j39plan.j1939 import ADDRESS_CLAIMED, CONNECTION_MANAGEMENT, DATA_TRANSFER, FRAME_BYTES, GLOBAL_ADDRESS, NULL_ADDRESS, REQUEST
+from j39plan.j1939 import ADDRESS_CLAIMED, CONNECTION_MANAGEMENT, DATA_TRANSFER, FRAME_BYTES, GLOBAL_ADDRESS, NULL_ADDRESS, REQUEST, identifier_of
 from j39plan.log.checks.transfers import ABORT, BAM, CLEAR, RTS, WHOLE
 from j39plan.probe import claiming, flowing, receiving
 from j39plan.probe.limits import T2
@@ -68,8 +68,8 @@ def _requests_and_claims(bench: Tester) -> None:
 
 
 def _flood(bench: Tester) -> None:
-    """Many requests."""
-    begin = bench.now
+    """Many requests, each at its time, whatever comes between."""
+    identifier, asked = identifier_of(6, REQUEST, bench.tool, bench.there), bench.unknown.to_bytes(3, "little")
     for number in range(int(RATE * FLOOD)):
-        bench.asks(bench.unknown, bench.there, bench.tool)
-        bench.pause(max(0.0, begin + (number + 1) / RATE - bench.now))
+        bench.clock.after(number / RATE, bench.bus.put, identifier, asked)
+    bench.pause(FLOOD)

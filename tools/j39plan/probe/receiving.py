@@ -5,8 +5,8 @@ from __future__ import annotations
 from j39plan.j1939 import PACKET_BYTES
 from j39plan.log.checks.transfers import ABORT, CLEAR, WHOLE
 from j39plan.plan.tables import Flow
-from j39plan.probe.limits import ENDS, TR
-from j39plan.probe.sessions import ENOUGH, Giving, Way, given, is_over, taken_whole
+from j39plan.probe.limits import TR
+from j39plan.probe.sessions import ENOUGH, Giving, Way, given, is_over, rests, taken_whole
 from j39plan.probe.tester import Frame, Tester, need
 
 # How far apart slow packets are.
@@ -37,7 +37,7 @@ def misses(bench: Tester) -> str:
         for what, way in tries.items():
             end = given(bench, tool, group.pgn, size, way)
             ways[f"{what}: {'asks again' if end.how == WHOLE and way.left_out else end.text}"] = None
-            bench.pause(ENDS)
+            rests(bench, tool)
             taken_whole(bench, flow, f"a whole message isn't taken behind one with {what}")
     bench.note("; ".join(ways))
     return "acknowledges nothing that didn't come, and takes whole messages later"
@@ -71,7 +71,7 @@ def again(bench: Tester) -> str:
         for what, sender, pgn, length in tries + ([("another sender", another, group.pgn, size)] if another is not None else []):
             given(bench, tool, group.pgn, size, Way(stops=1))
             bench.note(f"an RTS of {what} amid packets: {_second(bench, sender, pgn, length)}")
-            bench.pause(ENDS)
+            rests(bench, tool)
             taken_whole(bench, flow, f"a whole message isn't taken behind one amid which {what} was announced")
     return "mixes no messages"
 

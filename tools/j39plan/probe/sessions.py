@@ -7,7 +7,7 @@ from typing import NamedTuple
 from j39plan.j1939 import CONNECTION_MANAGEMENT, DATA_TRANSFER, FRAME_BYTES, GLOBAL_ADDRESS, PACKET_BYTES
 from j39plan.log.checks.transfers import ABORT, BAM, CLEAR, RTS, WHOLE
 from j39plan.plan.tables import Flow
-from j39plan.probe.limits import ENDS, T1, T2, TR
+from j39plan.probe.limits import AGAIN, ENDS, T1, T2, TR
 from j39plan.probe.tester import Frame, Tester, Unsure, forbid, need, needed
 
 # A reason of an Abort that the standard has left free: the tester has seen enough.
@@ -213,12 +213,26 @@ def fetched(bench: Tester, tool: int, announced: Frame) -> bytes:
     return b"".join(packet.data[1:] for packet in packets)[:size]
 
 
+def _says(bench: Tester, tool: int, since: Frame | None) -> Frame | None:
+    """What the box says next of a session, while one may be open."""
+    return bench.wait(lambda frame: frame.is_box and frame.pgn == CONNECTION_MANAGEMENT and frame.to == tool and frame.data[:1] in (bytes((ABORT,)), bytes((CLEAR,))),
+                      bench.limit(ENDS), since)
+
+
+def rests(bench: Tester, tool: int, since: Frame | None = None) -> Frame | None:
+    """Whatever is open with the tester ends: a box may ask for packets again before that, as often as the standard has it. Its Abort, if it sends one."""
+    for _ in range(1 + AGAIN):
+        since = _says(bench, tool, since)
+        if since is None:
+            return None
+        if since.data[0] == ABORT:
+            bench.pause(ENDS)
+            return since
+    return None
+
+
 def is_over(bench: Tester, tool: int, since: Frame) -> str:
     """How the box ends a session that the tester has left: in words; whatever is open has ended then."""
-    ended = bench.wait(lambda frame: frame.is_box and frame.pgn == CONNECTION_MANAGEMENT and frame.to == tool and frame.data[:1] == bytes((ABORT,)),
-                       bench.limit(ENDS), since)
-    if ended is None:
-        return "silence"
-    bench.pause(ENDS)
-    return f"Abort {ended.data[1]} after {1000 * (ended.at - since.at):.0f} ms"
+    ended = rests(bench, tool, since)
+    return "silence" if ended is None else f"Abort {ended.data[1]} after {1000 * (ended.at - since.at):.0f} ms"
 

@@ -160,8 +160,9 @@ class Tester:
             heard = self.bus.hears(end if due is None else min(end, due))
             if heard:
                 self._arrives(heard)
-            self.clock.wake(self.bus.now)
-            if heard is None and self.bus.now >= end:
+            now = self.bus.now
+            self.clock.wake(now)
+            if heard is None and now >= end:
                 return None
 
     def _number(self, frame: Frame) -> int:
