@@ -123,5 +123,5 @@ class AsTimeGoesBy(unittest.TestCase):
         self.assertEqual([(one.kind, one.place.value) for one in found.all()], [("silent", 1700 * MILLISECOND)])
         looked.goes_by(2520 * MILLISECOND, lambda way, at: False)
         looked.goes_by(2521 * MILLISECOND, lambda way, at: False)
-        looked.end(9000 * MILLISECOND)
+        looked.end(9000 * MILLISECOND, ())
         self.assertEqual([one.kind for one in found.all()], ["silent", "stopped"])

@@ -1,13 +1,18 @@
 -- Each variant that takes what is reported with a finding of a line has it.
-use Rattle.std.proofs.Common.{inl, inr, sym, subst}
-use Rattle.std.proofs.lemmas.Bool.{cases_Bool}
-use Rattle.j39_line_findings.specs.Conditions.{goes_by_conditions}
-use Rattle.j39_line_condition_laws.proofs.AllByConditions.{found_by_conditions}
+use Rattle.std.proofs.Common.{ℕ, List, inl, inr}
+use Rattle.j39_variants.specs.declared.line.ProductLine.{ProductLine}
+use Rattle.j39_line_findings.specs.PossibleVariants.{IsPossible}
+use Rattle.j39_line_findings.specs.declared.line_finding.LineFinding.{LineFinding}
 use Rattle.j39_line_check.proofs.Had.{had}
 use Rattle.j39_line_check.specs.LineChecks.{HasIt}
-use Rattle.j39_line_in_laws.proofs.ReportedLaws.{reported_is_condition, reported_may_be_all}
-use Rattle.j39_line_in_laws.specs.ReportedConditions.{TakesWhatIsReported}
+use Rattle.j39_line_in_laws.proofs.ReportedLaws.{reported_is_had}
+use Rattle.j39_line_in_laws.specs.ReportedConditions.{HasFound, TakesWhatIsReported}
 use Rattle.j39_line_in_laws.specs.ReportedOfLines.{ReportedOfLineIsHad}
+
+found_had : (line : ProductLine) (v : List ℕ) (finding : LineFinding) → IsPossible line v → HasFound line v finding → HasIt line v finding
+found_had line v finding possible (inl in_all) = had line v finding (record { possible = possible; one = in_all })
+found_had line v finding possible (inr some) =
+    record { possible = possible; findings = some.findings; are_findings = some.are_findings; one = some.one }
 
 pub reported_of_line_is_had : ReportedOfLineIsHad
 reported_of_line_is_had line names many reported are t among v taking =
@@ -18,13 +23,6 @@ reported_of_line_is_had line names many reported are t among v taking =
       is_variant = taking.is_variant;
       takes = taking.takes_these;
     } in
-    elim (cases_Bool (goes_by_conditions line t.finding)) [
-      | inr counts ↦ subst (λ x. HasIt line x t.finding) (sym (reported_may_be_all line t.finding counts w v takes)) its.has
-      | inl goes ↦
-          let (may, met) = its.meets goes in
-          had line v t.finding (record {
-            possible = record { is_variant = taking.is_variant; possible = taking.possible };
-            one = λ findings found.
-                (found_by_conditions line v findings found t.finding goes).1 (may, reported_is_condition line names t.finding goes w v takes met);
-          })
-    ]
+    found_had line v t.finding (record { is_variant = taking.is_variant; possible = taking.possible })
+    (reported_is_had line names t.finding w v takes its.has.findings its.has.are_findings
+    (inr (record { findings = its.has.findings; are_findings = its.has.are_findings; one = its.has.one })))
