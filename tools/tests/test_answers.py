@@ -67,8 +67,8 @@ class Grammar(unittest.TestCase):
         """The grammar has the findings of docs/guide/FINDINGS.md, with as many labels and numbers each."""
         listed = re.findall(r"^`(F\d+ \w+(?: \w+)*)`: ", text_of(os.path.join(TOP, "docs", "guide", "FINDINGS.md")), re.MULTILINE)
         self.assertGreaterEqual(len(listed), 27)
-        self.assertEqual([form.split()[:2] + [len(form.split())] for form in (*answer_grammar.FINDINGS, *answer_grammar.OF_LINES)],
-                         [line.split()[:2] + [len(line.split())] for line in listed])
+        forms = sorted((*answer_grammar.FINDINGS, *answer_grammar.OF_LINES), key=lambda form: int(form.split()[0][1:]))
+        self.assertEqual([form.split()[:2] + [len(form.split())] for form in forms], [line.split()[:2] + [len(line.split())] for line in listed])
 
     def test_each_stored_row(self) -> None:
         """All that `check`, `addresses` and `load` are known to answer is understood, and what is understood is all that stands there."""

@@ -32,7 +32,7 @@ class Numbers(InFolder):
     def test_other_services_are_taken(self) -> None:
         """They are those that the page names behind the table of F4."""
         self.assertEqual(self.bad(j1939.OTHER_SERVICES), set())
-        named = there(re.search(r"Only these are found, and not .*?\n\n", FINDINGS, re.DOTALL)).group()
+        named = there(re.search(r"Only these are found\. .*?\n\n", FINDINGS, re.DOTALL)).group()
         self.assertEqual(sorted(map(int, re.findall(r"\b\d{5}\b", named))), sorted(j1939.OTHER_SERVICES))
 
     def test_the_fields_of_a_name_are_those_of_the_page_and_of_the_schema(self) -> None:
