@@ -13,7 +13,8 @@ from j39plan.plan.parts import Source
 # The names, each with what its hints are about.
 NAMES = {
     "address": "the address of another function by SAE J1939", "broadcast": "long messages to all that take longer than their period",
-    "alike": "two alternatives that bring the same", "choice": "a choice of which no list names an alternative", "codes": "a group of trouble codes in which there is room for one",
+    "alike": "two alternatives that bring the same", "beside": "a flow that comes by itself and answers requests too",
+    "choice": "a choice of which no list names an alternative", "codes": "a group of trouble codes in which there is room for one",
     "drift": "clocks that are taken for exact", "identity": "one identity number of two makers", "idle": "a unit that sends, gets and needs nothing",
     "late": "a flow that meets a need and brings what is too old", "lint": "a comment that names no hint", "live": "a plan that could be live",
     "maker": "a NAME without a maker", "measure": "a scale without a unit of measurement", "pool": "a fixed unit where others may move",
