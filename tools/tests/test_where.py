@@ -225,7 +225,7 @@ class Where(WhereAnswers):
         plan = head + '[[group]]\nlabel = "G"\npgn = 65254\npriority = 6\nlength = 8\n'
         flow = '[[flow]]\ngroup = "G"\nfrom = "A"\nto = "all"\nperiod = 1000\npause = 1000\non_request = true\n'
         need = '[[need]]\nunit = "B"\ngroup = "G"\nwithin = 2000\n'
-        request = '[[request]]\ngroup = "G"\nfrom = "B"\nto = "A"\n'
+        request = '[[request]]\ngroup = "G"\nfrom = "B"\nto = "A"\nperiod = 1000\n'
         lines = (plan + flow).count("\n")
         unasked = "it is sent only as an answer, and no request of the plan asks for it"
         self.assertEqual(self.answer(plan + flow + need), (1, [f"{lines + 3}: F19 NeedUnmet 1  (G by B: key group: {unasked})", "findings 1"]))
