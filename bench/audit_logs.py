@@ -1,9 +1,10 @@
 #!/usr/bin/env python3
-"""Compares which flows and packets `audit` tells as near or silent, or late, and which units as deaf, with a reference in Python: audit_logs.py [LOGS [SEED]]
+"""Compares which flows and packets `audit` tells as near or silent, or late, which units as deaf, and which claims, with a reference in Python:
+audit_logs.py [LOGS [SEED]]
 
-Each of so many random logs (200) is of a random plan of five units: frames that keep their distances or don't, claims of these units and of others, requests
-for claims, messages that may be of several flows, clocks that are set back, quiet seconds, lines that are bad or without a time. The reference follows pages, not the program, but for response times,
-which `load` answers.
+Each of so many random logs (200) is of a random plan of five units: frames that keep their distances or don't, messages that deviate from their group, claims
+of these units and of others with smaller NAMEs or larger ones, requests for claims, messages that may be of several flows, clocks that are set back, gaps, lines
+that are bad or without a time. The reference follows pages, not the program, but for response times, which `load` answers.
 J39PLAN names the program, else ./j39plan is asked. The status is 1 where an answer differs, which is shown.
 """
 
@@ -26,6 +27,7 @@ BIT, SECOND = 4, 1_000_000
 FRAME_BYTES, LONGEST = 8, 1785
 CLAIMS_ASKED, LONGEST_ANSWER_MS = bytes([0x00, 0xEE, 0x00]), 250
 GAP_MS, LONGEST_GAP_MS, PACKET_BYTES = 50, 200, 7
+LEAST_QUIET_MS, MOST_QUIET_MS = 100, 1000
 # What bounds moments: idle bits of the bus, and response times.
 BY_BUS, BY_LOAD = "", "_or_late"
 
@@ -130,17 +132,17 @@ def random_plan(dice: random.Random) -> Plan:
 def random_claim(dice: random.Random, plan: Plan, time: int | None) -> Frame:
     place = dice.choice([0, 0, 1, 2, 2, 3, 3, 4, None])
     if place is None:
-        name, source = 99, dice.choice([140, 141, NULL, 128])
+        name, source = dice.choice([0, 2, 99]), dice.choice([140, 141, NULL, 128, 0, 3])
     else:
         unit = plan.units[place]
-        name, source = unit.name(), dice.choice([unit.address] * 4 + [128, 129, 130, NULL]) if unit.moves else unit.address
+        name, source = unit.name(), dice.choice([unit.address] * 4 + ([128, 129, 130, NULL] if unit.moves else [unit.address, 130, NULL]))
     return Frame(time, 6, CLAIM, ALL, source, name.to_bytes(8, "little"))
 
 
 def random_line(dice: random.Random, plan: Plan, at: int) -> Line:
     kind, time = dice.random(), None if dice.random() < 0.01 else at
     if kind < 0.55:
-        return Frame(time, 3, 61444, ALL, dice.choice([0, 0, 0, 0, 3]), bytes(8))
+        return Frame(time, dice.choice([3] * 40 + [6]), 61444, ALL, dice.choice([0, 0, 0, 0, 3]), bytes(dice.choice([8] * 40 + [7])))
     if kind < 0.62:
         announced = bytes([0x20, 18, 0, 3, ALL]) + (65260).to_bytes(3, "little")
         return Frame(time, dice.choice([7, 7, 6]), TRANSPORT, ALL, 0, announced)
@@ -165,7 +167,7 @@ def random_log(dice: random.Random, plan: Plan) -> list[Line]:
     for _ in range(dice.randint(10, 120)):
         at += dice.choice(distances)
         odd = dice.random()
-        at += dice.choice([1_000_001, 2_000_000, 999_999]) if odd < 0.02 else -dice.choice([3000, 100_000, 2_500_000]) if odd > 0.985 else 0
+        at += dice.choice([1_000_001, 2_000_000, 999_999, 100_000, 100_001, 30_001]) if odd < 0.03 else -dice.choice([3000, 100_000, 2_500_000]) if odd > 0.985 else 0
         at = max(at, 0)
         lines.append(random_line(dice, plan, at))
     return lines
@@ -184,6 +186,7 @@ class Addresses:
     is_part: bool
     claims: list[tuple[int | None, int]] = field(default_factory=list)
     recent: list[tuple[int | None, int]] = field(default_factory=list)
+    names: list[tuple[int, int]] = field(default_factory=list)
 
     def last(self, unit: int) -> int | None:
         claims = [] if self.is_part else self.recent if self.plan.units[unit].moves else self.claims
@@ -199,6 +202,19 @@ class Addresses:
         last = self.last(unit)
         return self.is_own(unit, address) if last is None else last == address
 
+    def gives_way(self, unit: int) -> bool:
+        """Whether a smaller NAME than the unit's claimed an address of it, or one that it claimed too."""
+        lost = {source for name, source in self.names if name < self.plan.units[unit].name() and source < NULL}
+        return self.plan.units[unit].claims and any(self.is_own(unit, address) or (unit, address) in self.claims for address in lost)
+
+    def deviation(self, unit: int, address: int) -> str | None:
+        """How the next claim of a unit deviates."""
+        may_choose, has_to = self.plan.units[unit].is_arbitrary, self.gives_way(unit)
+        if address == NULL:
+            return None if has_to and not may_choose else "cannot"
+        is_right = self.is_own(unit, address) and self.plan.units[unit].claims
+        return None if is_right or (has_to and may_choose and address in POOL) else "address"
+
     def sender(self, address: int) -> int | None:
         found = [unit for unit in range(len(self.plan.units)) if self.may_be(unit, address)]
         return found[0] if len(found) == 1 and not self.is_taken(address) else None
@@ -207,8 +223,13 @@ class Addresses:
 class Reference:
     """What is told of the flows and units of a plan by a log, whose lines' times may differ by so many microseconds."""
 
-    def __init__(self, plan: Plan, is_part: bool, stamps: int, responses: dict[int, int]) -> None:
+    def __init__(self, plan: Plan, is_part: bool, stamps: int, quiet: int | None, responses: dict[int, int]) -> None:
         self.plan, self.is_part, self.stamps, self.responses = plan, is_part, stamps, responses
+        pauses = [it.pause for it in plan.flows if it.pause and plan.groups[it.group].most <= FRAME_BYTES]
+        usual = min(MOST_QUIET_MS, max(LEAST_QUIET_MS, 4 * min(pauses))) if pauses else MOST_QUIET_MS
+        self.gap = 1000 * (usual if quiet is None else quiet)
+        self.last: int | None = None  # the time of the frame before
+        self.places: dict[int, int] = {}  # where a unit first claimed an address that isn't its own
         self.addresses = Addresses(plan, is_part)
         self.told: dict[tuple[str, int], list[tuple[int, int]]] = {}
         self.greatest: int | None = None  # the greatest time since times began
@@ -233,8 +254,7 @@ class Reference:
     def pause(self, flow: Flow) -> int | None:
         """How long the pause is of a flow that is judged."""
         group, ends = self.plan.groups[flow.group], [flow.sender] + ([] if flow.to is None else [flow.to])
-        is_of_one_sort = group.most <= FRAME_BYTES or group.length > FRAME_BYTES
-        is_judged = not self.is_part and is_of_one_sort and all(self.plan.units[end].claims for end in ends)
+        is_judged = not self.is_part and group.most <= FRAME_BYTES and all(self.plan.units[end].claims for end in ends)
         return self.longest(flow.pause) if flow.pause and is_judged else None
 
     def lower(self, bound: str, place: int, idle: int | None, time: int) -> int | None:
@@ -274,6 +294,14 @@ class Reference:
     def forget(self) -> None:
         self.latest, self.shown, self.begun = {}, {}, {}
 
+    def drop(self, sender: int, frame: Frame) -> None:
+        """A message that no flow brings deviates, where its number is a group's: of the flows with this number nothing is awaited any more."""
+        number = int.from_bytes(frame.data[5:8], "little") if frame.pgn == TRANSPORT and is_announcement(frame) else frame.pgn
+        for place, flow in enumerate(self.plan.flows):
+            if flow.sender == sender and self.plan.groups[flow.group].pgn == number:
+                for bound in (BY_BUS, BY_LOAD):
+                    self.latest.pop((bound, place), None)
+
     def take_bad(self) -> None:
         self.asked = {}
         self.end_all()
@@ -285,17 +313,19 @@ class Reference:
     # ---- frames
 
     def take(self, line: int, frame: Frame) -> None:
-        is_broken = self.see_time(frame.time)
+        is_gap = self.see_time(frame.time)
         is_claim = frame.pgn == CLAIM and len(frame.data) == FRAME_BYTES and frame.source <= NULL
         claimant = next((place for place, unit in enumerate(self.plan.units) if is_claim and unit.name() == int.from_bytes(frame.data, "little")), None)
         sender = self.addresses.sender(frame.source) if not is_claim and frame.source < NULL else None
         flows = [] if sender is None else self.flows_of(sender, frame)
         if frame.time is not None:
-            self.mark_idle(frame.time, len(frame.data), is_broken)
+            self.mark_idle(frame.time, len(frame.data), is_gap)
             if is_claim:
                 self.end_at_claim(claimant, frame.source)
             for place in flows if len(flows) > 1 else []:
                 self.end(place)
+            if sender is not None and not flows and frame.pgn != REQUEST and (frame.pgn != TRANSPORT or is_announcement(frame)):
+                self.drop(sender, frame)
             if len(flows) == 1:
                 self.take_message(line, frame.time, flows[0], frame.pgn != TRANSPORT)
             if frame.pgn == REQUEST and frame.data == CLAIMS_ASKED:
@@ -306,32 +336,38 @@ class Reference:
                 self.take_broadcast(line, frame.time, frame, sender, flows)
         if is_claim:
             self.asked.pop(-1 if claimant is None else claimant, None)
+            word = None if claimant is None else self.addresses.deviation(claimant, frame.source)
+            if claimant is not None and word:
+                self.tell(word, claimant, line, 0)
+                if word == "address":
+                    self.places.setdefault(claimant, frame.source)
+            self.addresses.names.append((int.from_bytes(frame.data, "little"), frame.source))
             self.addresses.claims.append((claimant, frame.source))
             self.addresses.recent.append((claimant, frame.source))
 
     def see_time(self, time: int | None) -> bool:
-        """Times begin anew at a frame without one or where the clock was set back; the log breaks off there, and behind a quiet second."""
+        """Times begin anew at a frame without one or where the clock was set back, where the log breaks off, as behind a quiet second; and a gap ends."""
         is_back = time is not None and self.greatest is not None and time + 2 * self.stamps < self.greatest
         is_quiet = time is not None and self.greatest is not None and time > self.greatest + SECOND
-        if time is None or is_back:
+        is_gap = is_back or is_quiet or (time is not None and self.last is not None and time > self.last + self.gap)
+        if time is None or is_gap:
             self.end_all()
+            self.asked = {}
+        if time is None or is_back:
             self.before = self.idle = None
             self.earliest = {}
-        elif is_quiet:
-            self.forget()
-        if time is None or is_back or is_quiet:
-            self.asked = {}
         self.greatest = time if time is None or is_back or self.greatest is None else max(self.greatest, time)
+        self.last = time
         if is_back or is_quiet:
             self.addresses.recent = []
-        return is_back or is_quiet
+        return is_gap
 
-    def mark_idle(self, time: int, size: int, is_broken: bool) -> None:
+    def mark_idle(self, time: int, size: int, is_gap: bool) -> None:
         """The bus was idle before a frame that doesn't touch the one before, if damage can't fill what is between."""
         count, every = self.plan.errors or (0, 0)
         reach = whole(BIT * (81 + 10 * size + 192 * count) * (SECOND + self.plan.drift), SECOND) + 2
         is_rare = not self.plan.errors or BIT * 192 * (count + 1) * (SECOND + self.plan.drift) <= 1000 * every * SECOND
-        if not self.is_part and not is_broken and is_rare and self.before is not None and time > self.before + reach + 2 * self.stamps:
+        if not self.is_part and not is_gap and is_rare and self.before is not None and time > self.before + reach + 2 * self.stamps:
             self.idle = time - reach - self.stamps
         self.before = time
 
@@ -432,7 +468,10 @@ class Reference:
     def lines(self) -> list[str]:
         """What is told, by words and then by units or flows."""
         deaf = [(unit.label, told) for place, unit in enumerate(self.plan.units) if (told := self.told.get(("deaf", place)))]
-        found = [f"deaf unit {label} times {len(told)} first {told[0][0]}" for label, told in deaf]
+        claims = [(word, place, self.told.get((word, place), [])) for word in ("address", "cannot") for place in range(len(self.plan.units))]
+        found = [f"{word} unit {self.plan.units[place].label}{f' at {self.places[place]}' if word == 'address' else ''} times {len(told)} first {told[0][0]}"
+                 for word, place, told in claims if told]
+        found += [f"deaf unit {label} times {len(told)} first {told[0][0]}" for label, told in deaf]
         flows = [f"{at} {self.plan.groups[it.group].label} {self.plan.units[it.sender].label} {self.plan.receiver(it)}" for at, it in enumerate(self.plan.flows, 1)]
         for first, kind in (("near", "flow"), ("near", "packets"), ("silent", "flow"), ("silent", "packets")):
             for place, name in enumerate([unit.label for unit in self.plan.units] if kind == "packets" else flows):
@@ -444,9 +483,9 @@ class Reference:
         return found
 
 
-def wanted(plan: Plan, lines: list[Line], is_part: bool, stamps: int, folder: str) -> list[str]:
+def wanted(plan: Plan, lines: list[Line], is_part: bool, stamps: int, quiet: int | None, folder: str) -> list[str]:
     """What the reference tells of a log."""
-    reference = Reference(plan, is_part, stamps, responses_of(plan, folder))
+    reference = Reference(plan, is_part, stamps, quiet, responses_of(plan, folder))
     for number, line in enumerate(lines, 1):
         if isinstance(line, Frame):
             reference.take(number, line)
@@ -467,28 +506,30 @@ def responses_of(plan: Plan, folder: str) -> dict[int, int]:
     return {int(number) - 1: int(us) for number, us in told if plan.groups[plan.flows[int(number) - 1].group].most <= FRAME_BYTES}
 
 
-def answered(plan: Plan, lines: list[Line], is_part: bool, stamps: int, folder: str) -> list[str]:
+def answered(plan: Plan, lines: list[Line], is_part: bool, stamps: int, quiet: int | None, folder: str) -> list[str]:
     """What the program tells of it."""
     files = {"plan.toml": plan.toml(), "a.log": "".join(f"{line.text() if isinstance(line, Frame) else line[0]}\n" for line in lines)}
     for name, text in files.items():
         Path(folder, name).write_text(text, encoding="ascii")
-    words = [PROGRAM, "audit", *(["--part"] if is_part else []), "--stamps", str(stamps), *(f"{folder}/{name}" for name in files)]
+    gap = [] if quiet is None else ["--quiet", str(quiet)]
+    words = [PROGRAM, "audit", *(["--part"] if is_part else []), "--stamps", str(stamps), *gap, *(f"{folder}/{name}" for name in files)]
     ran = subprocess.run(words, stdin=subprocess.DEVNULL, capture_output=True, text=True, check=False)
     answer = ran.stdout.splitlines()
     if ran.returncode > 1 or not answer or not answer[-1].startswith("deviations "):
         raise SystemExit(f"audit answers {ran.stdout}{ran.stderr}")
-    return [line for line in answer if line.startswith(("deaf unit ", "near flow ", "near packets ", "near_or_late flow ", "silent ", "silent_or_late "))]
+    return [line for line in answer if line.startswith(("address unit ", "cannot unit ", "deaf unit ", "near flow ", "near packets ", "near_or_late flow ", "silent ", "silent_or_late "))]
 
 
 def main(words: list[str]) -> int:
     count, seed = int(words[0]) if words else 200, int(words[1]) if words[1:] else 1
-    differences, told = 0, {word: 0 for word in ("deaf", "near", "near_or_late", "silent", "silent_or_late")}
+    differences, told = 0, {word: 0 for word in ("address", "cannot", "deaf", "near", "near_or_late", "silent", "silent_or_late")}
     with tempfile.TemporaryDirectory(prefix="j39plan-audits-") as folder:
         for number in range(count):
             dice = random.Random(f"{seed} {number}")
             plan = random_plan(dice)
             lines, is_part, stamps = random_log(dice, plan), dice.random() < 0.1, dice.choice([1000, 1000, 0, 5000])
-            want, have = wanted(plan, lines, is_part, stamps, folder), answered(plan, lines, is_part, stamps, folder)
+            quiet = dice.choice([None, None, 1000, 30, 1])
+            want, have = wanted(plan, lines, is_part, stamps, quiet, folder), answered(plan, lines, is_part, stamps, quiet, folder)
             for line in want:
                 told[line.split()[0]] += 1
             if want != have:

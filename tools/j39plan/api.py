@@ -362,14 +362,16 @@ def drive(plan: Plan, log: Name, options: Iterable[str] = (), *, interface: str 
     return drives.drive_of(_plan(plan).text, plan.shown, os.fspath(log), os.path.abspath(log), [*options, *_options(interface)])
 
 
-def audit(plan: Plan, log: Name, *, part: bool = False, stamps: int | None = None, interface: str | None = None) -> Audit:
+def audit(plan: Plan, log: Name, *, part: bool = False, stamps: int | None = None, quiet: int | None = None, interface: str | None = None) -> Audit:
     """What a log refutes of a plan, as `j39plan audit` answers: who is `accused` of what, how often each flow was `seen`, and how many lines the log has
-    of each kind. `part` says that it lacks frames of the bus, `stamps` by how many us its times differ from true ones at most (1000).
+    of each kind. `part` says that it lacks frames of the bus, `stamps` by how many us its times differ from true ones at most (1000),
+    and `quiet` how many ms without a frame are a gap (else as the plan has it).
 
     Raises `Refused` where the plan has findings, by which nobody can be accused, and else as `follow` does.
     """
     (log,) = _logs(log)
-    words = [*(["--part"] if part else []), *([] if stamps is None else ["--stamps", str(stamps)])]
+    numbers = {"--stamps": stamps, "--quiet": quiet}
+    words = [*(["--part"] if part else []), *(word for name, number in numbers.items() if number is not None for word in (name, str(number)))]
     with _with_program(), program.file_of(_plan(plan).text) as copy, _chosen(log, interface) as chosen:
         status, answer = program.call(["audit", *words, "--", copy, chosen])
     found = audit_of(answer)

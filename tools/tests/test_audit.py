@@ -79,6 +79,8 @@ class Answers(InFolder):
         self.assertEqual([len(found[name]) for name in ("flows", "requests", "units")], [4, 3, 4])
         self.assertEqual(found["stamps"], 1000)
         self.assertEqual(json.loads(run("answer.py", "audit", "--stamps", "5", "--part", self.plan, self.log)[1])["stamps"], 5)
+        self.assertEqual(json.loads(run("answer.py", "audit", "--quiet", "1000", self.plan, self.log)[1])["accused"], found["accused"])
+        self.assertEqual(run("answer.py", "audit", "--quiet", "0", self.plan, self.log)[0], 2)
 
     def test_of_a_plan_with_findings(self) -> None:
         """As `check` has it."""
@@ -87,7 +89,7 @@ class Answers(InFolder):
         self.assertEqual(found["findings"][0]["finding"], "F2")
 
     def test_words_that_do_not_go_together(self) -> None:
-        for words in (("audit", self.plan), ("check", self.plan, self.log), ("load", "--part", self.plan)):
+        for words in (("audit", self.plan), ("check", self.plan, self.log), ("load", "--part", self.plan), ("load", "--quiet", "5", self.plan)):
             self.assertEqual(run("answer.py", *words)[0], 2)
 
     def test_what_to_ask(self) -> None:

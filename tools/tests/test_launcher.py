@@ -25,6 +25,7 @@ FAULTS: list[tuple[list[str], str]] = [
     (["read", "/none", "/none2"], "4|/none: No such file or directory"),
     (["follow", "--all", PLAN, "/none2"], "4|/none2: No such file or directory"),
     (["audit", "--part", "--stamps", "5", PLAN, "/"], "4|/: Is a directory"),
+    (["audit", "--quiet", "5", PLAN, "/"], "4|/: Is a directory"),
     (["vehicle", "--", "-x"], "4|-x: No such file or directory"),
     (["variant", "/none", "A", "B"], "4|/none: No such file or directory"),
     ([], "|"), (["check", PLAN], "|"), (["check", "--help"], "|"), (["jump", "--help"], "2|jump: no command or tool is called so; j39plan help lists the commands"),

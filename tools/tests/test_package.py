@@ -306,7 +306,7 @@ class Completions(InFolder):
         self.assertEqual(self.complete_bash("j39plan", "v"), ["variant", "vehicle"])
         self.assertEqual(self.complete_bash("j39plan", "help", "f"), ["follow", "frame", "forwards", "fleet"])
         self.assertEqual(self.complete_bash("j39plan", "follow", "--"), ["--all"])
-        self.assertEqual(self.complete_bash("j39plan", "audit", "--"), ["--part", "--stamps"])
+        self.assertEqual(self.complete_bash("j39plan", "audit", "--"), ["--part", "--stamps", "--quiet"])
         self.assertEqual(self.complete_bash("j39plan", "audit", "--part", "--s"), ["--stamps"])
 
     def test_bash_of_files(self) -> None:
@@ -315,7 +315,7 @@ class Completions(InFolder):
             self.write(name, "")
         for words, name in ((("j39plan", "check"), "a.toml"), (("j39plan", "vehicle"), "a.toml"), (("j39plan", "run", "a.toml"), "a.schedule"),
                             (("j39plan", "read", "a.toml"), "a.log"), (("j39plan", "follow", "--all", "a.toml"), "a.log"),
-                            (("j39plan", "audit", "--stamps", "5"), "a.toml"), (("j39plan", "audit", "--stamps", "5", "--part", "a.toml"), "a.log"),
+                            (("j39plan", "audit", "--stamps", "5"), "a.toml"), (("j39plan", "audit", "--stamps", "5", "--part", "a.toml"), "a.log"), (("j39plan", "audit", "--quiet", "5", "a.toml"), "a.log"),
                             (("j39plan-where",), "a.toml"), (("j39plan-startup",), "a.toml"),
                             (("j39plan-against", "a.toml"), "a.log"), (("j39plan-fleet", "a.toml", "a.log"), "a.log"), (("j39plan-join", "a.toml"), "a.toml"),
                             (("j39plan-forwards", "a.toml"), "a.toml"),

@@ -74,8 +74,8 @@ IsAnswer files input (Read plan log) text verdict =
     IsAnswerOfTwo (IsForOnePlan IsReadOf) (files (string_bytes plan)) (files (string_bytes log)) text verdict
 IsAnswer files input (Follow plan log frames) text verdict =
     IsAnswerOfTwo (IsForOnePlan (IsFollowOf (are_all frames))) (files (string_bytes plan)) (files (string_bytes log)) text verdict
-IsAnswer files input (Audit plan log part stamps) text verdict =
-    IsAnswerOfTwo (IsForOnePlan (IsAuditOf part stamps)) (files (string_bytes plan)) (files (string_bytes log)) text verdict
+IsAnswer files input (Audit plan log part stamps quiet) text verdict =
+    IsAnswerOfTwo (IsForOnePlan (IsAuditOf part stamps quiet)) (files (string_bytes plan)) (files (string_bytes log)) text verdict
 IsAnswer files input (Vehicle vehicle) text verdict = IsAnswerOfVehicle files (string_bytes vehicle) text verdict
 IsAnswer files input (Help shown) text verdict = (text ≡ string_bytes shown) × (verdict ≡ Done)
 

@@ -22,7 +22,7 @@ abbrev pub is_hindered : Plan → Bool
 is_hindered plan = list_any hinders (found plan)
 
 -- what the check command writes of a plan by which no log can be audited, else what the audit finds in the whole log
-abbrev pub IsAuditOf : Bool → ℕ → Plan → Option (List ℕ) → List ℕ → Verdict → Type 0
-IsAuditOf part stamps plan known text verdict =
+abbrev pub IsAuditOf : Bool → ℕ → Option ℕ → Plan → Option (List ℕ) → List ℕ → Verdict → Type 0
+IsAuditOf part stamps quiet plan known text verdict =
     ((is_hindered plan ≡ true) × IsReport plan text verdict)
-    ⊎ ((is_hindered plan ≡ false) × ((log : List ℕ) × AreOf known log × IsAudit plan part stamps log text verdict))
+    ⊎ ((is_hindered plan ≡ false) × ((log : List ℕ) × AreOf known log × IsAudit plan part stamps quiet log text verdict))

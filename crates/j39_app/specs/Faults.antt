@@ -42,7 +42,7 @@ IsOfRead OfInput IsOf files (Load plan) = IsOf plan_limits (string_bytes plan)
 IsOfRead OfInput IsOf files (Run plan schedule) = IsOfTwo IsOf files plan_limits (string_bytes plan) (string_bytes schedule)
 IsOfRead OfInput IsOf files (Read plan log) = IsOfTwo IsOf files log_limits (string_bytes plan) (string_bytes log)
 IsOfRead OfInput IsOf files (Follow plan log frames) = IsOfTwo IsOf files log_limits (string_bytes plan) (string_bytes log)
-IsOfRead OfInput IsOf files (Audit plan log part stamps) = IsOfTwo IsOf files log_limits (string_bytes plan) (string_bytes log)
+IsOfRead OfInput IsOf files (Audit plan log part stamps quiet) = IsOfTwo IsOf files log_limits (string_bytes plan) (string_bytes log)
 IsOfRead OfInput IsOf files (Vehicle vehicle) = IsOfVehicleFiles (IsOf plan_limits) files (string_bytes vehicle)
 IsOfRead OfInput IsOf files (Help shown) = ⊥
 

@@ -29,18 +29,18 @@ abbrev pub IsTextByPlan : CommandByPlan → Plan → Option (List ℕ) → List 
 IsTextByPlan Run = IsRunOf
 IsTextByPlan Read = IsReadOf
 IsTextByPlan (Follow all_frames) = IsFollowOf all_frames
-IsTextByPlan (Audit part stamps) = IsAuditOf part stamps
+IsTextByPlan (Audit part stamps quiet) = IsAuditOf part stamps quiet
 
 -- where a fault comes, a part of such a text may stand written
 abbrev pub IsFrontByPlan : CommandByPlan → Plan → Option (List ℕ) → List ℕ → Verdict → Type 0
 IsFrontByPlan Run = IsRunFrontOf
 IsFrontByPlan Read = IsReadFrontOf
 IsFrontByPlan (Follow all_frames) = IsFollowFrontOf all_frames
-IsFrontByPlan (Audit part stamps) = IsAuditOf part stamps
+IsFrontByPlan (Audit part stamps quiet) = IsAuditOf part stamps quiet
 
 -- what is written is put at once, and not while the other file is read
 abbrev pub PutsByPlan : CommandByPlan → Type 0
-PutsByPlan (Audit part stamps) = Unit {0}
+PutsByPlan (Audit part stamps quiet) = Unit {0}
 PutsByPlan _ = ⊥
 
 -- how much of the other file is read

@@ -66,8 +66,8 @@ pub fn answer<F: Folder, S: Source, W: Sink>(
             let command = CommandByPlan::Follow(frames.are_all());
             by_two(alloc, files, command, plan, log, sink)
         }
-        Order::Audit(plan, log, part, stamps) => {
-            let command = CommandByPlan::Audit(*part, *stamps);
+        Order::Audit(plan, log, part, stamps, quiet) => {
+            let command = CommandByPlan::Audit(*part, *stamps, *quiet);
             by_two(alloc, files, command, plan, log, sink)
         }
         Order::Vehicle(vehicle) => vehicle_files(alloc, files, vehicle, sink),

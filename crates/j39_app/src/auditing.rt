@@ -56,18 +56,19 @@ pub fn audit_planned<S: Source, W: Sink>(
     plan: &Plan,
     part: bool,
     stamps: u64,
+    quiet: Option<u64>,
     log: &mut S,
     sink: &mut W,
 ) -> CommandResult
     ensures hindered { is_hindered plan.now ≡ true → PutsText (IsReport plan.now) W.state sink.old sink.new result }
     ensures unread { is_hindered plan.now ≡ true → log.new ≡ log.old }
-    ensures audited { is_hindered plan.now ≡ false → AnswersWhole (IsAudit plan.now part stamps) (IsOfAny (IsAudit plan.now part stamps)) log_limits
+    ensures audited { is_hindered plan.now ≡ false → AnswersWhole (IsAudit plan.now part stamps quiet) (IsOfAny (IsAudit plan.now part stamps quiet)) log_limits
         (S.state log.old) (S.state log.new) W.state sink.old sink.new result }
 {
     let findings = check(alloc, plan)?;
     if are_hindering(findings.as_slice()) {
         put_findings(alloc, plan, sink)
     } else {
-        audit_text(alloc, plan, part, stamps, log, sink)
+        audit_text(alloc, plan, part, stamps, quiet, log, sink)
     }
 }

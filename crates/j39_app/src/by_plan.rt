@@ -26,8 +26,8 @@ pub(crate) enum CommandByPlan {
     /// Who sent what in a log, by its own claims: of all frames, or of those of planned groups.
     Follow(bool),
     /// Which premises of the plan a log refutes: of a log in which frames may be missing or of a whole one, by a logger
-    /// of this error in microseconds.
-    Audit(bool, u64),
+    /// of this error in microseconds, and with gaps of so many milliseconds or by the plan.
+    Audit(bool, u64, Option<u64>),
 }
 
 // Reads the other file by the plan, and writes what it finds.
@@ -47,7 +47,9 @@ fn write_by_plan<S: Source, W: Sink>(
         CommandByPlan::Run => run_planned(alloc, plan, file, sink),
         CommandByPlan::Read => read_text(alloc, plan, file, sink),
         CommandByPlan::Follow(all_frames) => follow_text(alloc, plan, all_frames, file, sink),
-        CommandByPlan::Audit(part, stamps) => audit_planned(alloc, plan, part, stamps, file, sink),
+        CommandByPlan::Audit(part, stamps, quiet) => {
+            audit_planned(alloc, plan, part, stamps, quiet, file, sink)
+        }
     }
 }
 

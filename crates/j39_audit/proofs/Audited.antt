@@ -1,10 +1,11 @@
 -- What is written of a log that was read is its text.
-use Rattle.std.proofs.Common.{◌≡◌, ℕ, List, Bool, true, false, cond, ap, subst, ◌∙◌}
+use Rattle.std.proofs.Common.{◌≡◌, ℕ, List, Bool, true, false, cond, Option, ap, subst, ◌∙◌}
 use Rattle.j39_id.specs.Lines.{lines}
 use Rattle.j39_log.specs.declared.line_counts.LineCounts.{LineCounts}
 use Rattle.j39_stream.specs.declared.verdict.Verdict.{Verdict}
 use Rattle.j39_audit.specs.AuditText.{IsAudit, IsAuditedLog, Look, AuditPast, accusation_count, counts_of, is_of_asking, is_of_broadcasts, is_of_moments, log_ended, look_at, text_by, verdict_by, is_of_load, mark_by_bus}
 use Rattle.j39_audit.specs.Counting.{key_of}
+use Rattle.j39_audit.specs.Gaps.{quiet_by}
 use Rattle.j39_audit.specs.Responses.{AreResponses}
 use Rattle.j39_audit.specs.Settings.{AreMoving, Settings}
 use Rattle.j39_audit.specs.declared.audit_log.AuditLog.{AuditLog}
@@ -48,19 +49,20 @@ audited s log input text verdict has is =
     }
 
 -- where the settings are those of the plan
-is_audit : (s : Settings) (input text : List ℕ) (verdict : Verdict) → AreMoving s.plan s.moving → AreResponses s.plan s.responses → s.bound ≡ Bus
-    → IsAuditedLog s input text verdict → IsAudit s.plan s.part s.stamps input text verdict
-is_audit s input text verdict moving responses bus audited = record {
+is_audit : (s : Settings) (quiet : Option ℕ) (input text : List ℕ) (verdict : Verdict) → AreMoving s.plan s.moving → AreResponses s.plan s.responses
+    → s.bound ≡ Bus → s.quiet ≡ quiet_by s.plan quiet → IsAuditedLog s input text verdict → IsAudit s.plan s.part s.stamps quiet input text verdict
+is_audit s quiet input text verdict moving responses bus is_quiet audited = record {
   moving = s.moving;
   moving_are = moving;
   responses = s.responses;
   responses_are = responses;
-  audited = subst (λ (b : Bound). IsAuditedLog (record s { bound = b }) input text verdict) bus audited;
+  audited = subst (λ (q : ℕ). IsAuditedLog (record s { bound = Bus; quiet = q }) input text verdict) is_quiet
+      (subst (λ (b : Bound). IsAuditedLog (record s { bound = b }) input text verdict) bus audited);
 }
 
-pub is_audit_of : (s t : Settings) → s ≡ t → AreMoving t.plan t.moving → AreResponses t.plan t.responses → t.bound ≡ Bus → (log : AuditLog)
-    (input text : List ℕ) (verdict : Verdict) → HasAuditedWhole s log (lines input) → IsAuditReport log text verdict
-    → IsAudit t.plan t.part t.stamps input text verdict
-is_audit_of s t same moving responses bus log input text verdict has is =
-    is_audit t input text verdict moving responses bus
+pub is_audit_of : (s t : Settings) (quiet : Option ℕ) → s ≡ t → AreMoving t.plan t.moving → AreResponses t.plan t.responses → t.bound ≡ Bus
+    → t.quiet ≡ quiet_by t.plan quiet → (log : AuditLog) (input text : List ℕ) (verdict : Verdict) → HasAuditedWhole s log (lines input)
+    → IsAuditReport log text verdict → IsAudit t.plan t.part t.stamps quiet input text verdict
+is_audit_of s t quiet same moving responses bus is_quiet log input text verdict has is =
+    is_audit t quiet input text verdict moving responses bus is_quiet
     (subst (λ (r : Settings). IsAuditedLog r input text verdict) same (audited s log input text verdict has is))

@@ -4,7 +4,7 @@ use Rattle.std.specs.Prelude.{is_some, unwrap_or}
 use Rattle.std.specs.Option.{option_or}
 use Rattle.std.proofs.Math.Bool.{and-false}
 use Rattle.std.proofs.lemmas.Bool.{cases_lt, true≢false}
-use Rattle.j39_audit.specs.Below.{any_below, each_below, first_below, sum_below}
+use Rattle.j39_audit.specs.Below.{any_below, each_below, first_below, least_below, lesser_of, sum_below}
 
 -- ---- lists
 
@@ -25,6 +25,16 @@ sum_none number = refl
 pub sum_more : (number : ℕ → ℕ) (n : ℕ) → sum_below number (n + 1) ≡ sum_below number n + number n
 unfolding sum_below
 sum_more number n = rw add-one refl
+
+-- ---- the least one
+
+pub least_none : (number : ℕ → Option ℕ) → least_below number 0 ≡ None
+unfolding least_below
+least_none number = refl
+
+pub least_more : (number : ℕ → Option ℕ) (n : ℕ) → least_below number (n + 1) ≡ lesser_of (least_below number n) (number n)
+unfolding least_below
+least_more number n = rw add-one refl
 
 -- ---- tests
 

@@ -70,6 +70,7 @@ follows_still log past follows = record {
   knows = follows.knows;
   counted = follows.counted;
   newest_is = follows.newest_is;
+  before_is = follows.before_is;
   moments = follows.moments;
   by_load = follows.by_load;
   asking = follows.asking;

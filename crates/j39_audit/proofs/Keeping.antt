@@ -68,3 +68,16 @@ kept_closed closed kept = kept_none (λ n. kept.places n ∙ kept.closed closed 
 -- and where it is, it may be
 pub kept_open : {X : Type 0} {items : List (Option X)} {is_open : Bool} {table : ℕ → Option X} → IsKeptAt items is_open table → IsKeptAt items true table
 kept_open kept = record { places = kept.places; closed = λ e. absurd (true≢false e) }
+
+-- where a test passes nothing is kept any more
+pub kept_unless : {X : Type 0} {old new : List (Option X)} {is_open : Bool} {table : ℕ → Option X} (test : ℕ → Bool)
+    → ((n : ℕ) → slice_index_or new n None ≡ cond (test n) None (slice_index_or old n None)) → IsKeptAt old is_open table
+    → IsKeptAt new is_open (λ n. cond (test n) None (table n))
+kept_unless {X = X} {table = table} test each kept = record {
+  places = λ n. each n ∙ ap (λ (x : Option X). cond (test n) None x) (kept.places n);
+  closed = λ e n. none_either (test n) (table n) (kept.closed e n);
+}
+
+pub each_unless : {X : Type 0} (P : X → Type 0) (new old : ℕ → Option X) (test : ℕ → Bool) → ((n : ℕ) → new n ≡ cond (test n) None (old n))
+    → ((n : ℕ) → IfSome (old n) P) → (n : ℕ) → IfSome (new n) P
+each_unless P new old test each was n = subst (λ o. IfSome o P) (sym (each n)) (some_either P (test n) None (old n) tt (was n))

@@ -16,7 +16,7 @@ use Rattle.j39_audit.proofs.Below.{each_more, each_none}
 -- what is sighted by two lists
 sighted_both : (w : Sighting) (xs ys : List Noted) → sighted_behind w (xs ++ ys) ≡ sighted_behind (sighted_behind w xs) ys
 sighted_both w [] ys = refl
-sighted_both w (n ∷ xs) ys = sighted_both (sighted_as n.mark.word n.mark.subject w) xs ys
+sighted_both w (n ∷ xs) ys = sighted_both (sighted_as n.mark.word n.mark.subject n.mark.group w) xs ys
 
 -- and what is unclear
 unclear_both : (ns : List ℕ) (xs ys : List Noted) → unclear_behind ns (xs ++ ys) ≡ unclear_behind (unclear_behind ns xs) ys

@@ -32,9 +32,9 @@ nobody_asked = record { asked = λ u. None; deaf = [] }
 abbrev pub all_forgotten : Asking → Asking
 all_forgotten a = record a { asked = λ u. None }
 
--- just before a frame, where times begin anew or the log breaks off
+-- just before a frame, where times begin anew or a gap ends
 abbrev pub asked_before : Bool → Bool → Asking → Asking
-asked_before anew broken a = if anew || broken then all_forgotten a else a
+asked_before anew gap a = if anew || gap then all_forgotten a else a
 
 -- of a unit
 abbrev pub with_asked : ℕ → Option ClaimRequest → (ℕ → Option ClaimRequest) → ℕ → Option ClaimRequest
@@ -110,8 +110,8 @@ with_sign_of (Some t) (Some u) idle a = deaf_if_overdue t idle u (a.asked u) a
 
 -- what is asked just behind it
 abbrev pub asked_behind : Settings → Knowledge → Bool → Bool → Option ℕ → Frame → ℕ → Asking → Asking
-asked_behind s k broken anew time f line a = asked_at s k f time line (answered_at s f (asked_before anew broken a))
+asked_behind s k gap anew time f line a = asked_at s k f time line (answered_at s f (asked_before anew gap a))
 
 -- and with what it reports of the unit for which it counts
 unfoldable pub asking_behind : Settings → Knowledge → Bool → Bool → Option ℕ → Frame → ℕ → Option ℕ → Option ℕ → Asking → Asking
-asking_behind s k broken anew time f line unit idle a = with_sign_of s.plan.timing unit idle (asked_behind s k broken anew time f line a)
+asking_behind s k gap anew time f line unit idle a = with_sign_of s.plan.timing unit idle (asked_behind s k gap anew time f line a)

@@ -27,6 +27,7 @@ use Rattle.j39_audit.specs.BegunBroadcasts.{BegunBroadcasts, all_ended as all_br
 use Rattle.j39_audit.specs.Breaks.{breaks, line_time, newest_behind}
 use Rattle.j39_audit.specs.Claiming.{HeardClaims, broken_off, knowledge, no_claims}
 use Rattle.j39_audit.specs.Counting.{Noted, reported_in}
+use Rattle.j39_audit.specs.Gaps.{ends_gap, quiet_by}
 use Rattle.j39_audit.specs.Looking.{IsPacketOf, break_noted, claims_behind, frame_noted, noted_if}
 use Rattle.j39_audit.specs.Moments.{Moments, all_pauses_ended, begins_anew, behind_bad, behind_gap, moments_behind, no_moments, with_packet_stream}
 use Rattle.j39_audit.specs.MessageStreams.{nothing_sighted, sighted_behind}
@@ -42,12 +43,13 @@ use Rattle.j39_audit.specs.declared.tally.Occurrences.{Occurrences}
 
 -- ---- a log
 
--- what came so far: how many lines, the interface of the log, the newest time, the claims, what was noted, what the times report by the bus and by
+-- what came so far: how many lines, the interface of the log, the newest time, that of the frame before, the claims, what was noted, what the times report by the bus and by
 -- load, who is asked for claims, the planned broadcasts, and how many lines there were of each sort
 pub record AuditPast : Type 0 where
   pub number : ℕ
   pub interface : Option (List ℕ)
   pub newest : Option ℕ
+  pub before : Option ℕ
   pub claims : HeardClaims
   pub noted : List Noted
   pub moments : Moments
@@ -64,6 +66,7 @@ nothing_read = record {
   number = 0;
   interface = None;
   newest = None;
+  before = None;
   claims = no_claims;
   noted = [];
   moments = no_moments;
@@ -103,6 +106,10 @@ passed_by s _ past = bad_line s past
 abbrev pub claims_before : Settings → AuditPast → Option ℕ → HeardClaims
 claims_before s past time = broken_off (breaks s.stamps past.newest time) past.claims
 
+-- a gap ends just before it
+abbrev pub gap_before : Settings → AuditPast → Option ℕ → Bool
+gap_before s past time = ends_gap s.stamps s.quiet past.newest past.before time
+
 -- what is noted at a frame of this time and packet, and what the times report behind it
 abbrev pub noted_newly : Settings → AuditPast → Option ℕ → Frame → Option Packet → List Noted
 noted_newly s past time f packet =
@@ -111,7 +118,7 @@ noted_newly s past time f packet =
 -- by settings of this bound
 abbrev pub moments_with_frame : Settings → Settings → AuditPast → Option ℕ → Frame → Option Packet → Moments → Moments
 moments_with_frame bounds s past time f packet m =
-    moments_behind bounds (breaks s.stamps past.newest time) (begins_anew s.stamps past.newest time) time f past.number
+    moments_behind bounds (gap_before s past time) (begins_anew s.stamps past.newest time) time f past.number
     (noted_newly s past time f packet) (ending_of s (knowledge s (claims_before s past time)) f) m
 
 -- the unit for which it counts, if it does; the broadcasts just before it; and the claims behind it, of which one that announces is none
@@ -119,7 +126,7 @@ abbrev pub counted_for : Settings → AuditPast → Option ℕ → Frame → Opt
 counted_for s past time f packet = (sighted_behind nothing_sighted (noted_newly s past time f packet)).unit
 
 abbrev pub broadcasts_there : Settings → AuditPast → Option ℕ → Frame → BegunBroadcasts
-broadcasts_there s past time f = broadcasts_before (begins_anew s.stamps past.newest time) (breaks s.stamps past.newest time)
+broadcasts_there s past time f = broadcasts_before (begins_anew s.stamps past.newest time) (gap_before s past time)
     (ending_of s (knowledge s (claims_before s past time)) f) past.broadcasts
 
 abbrev pub claims_with_frame : Settings → AuditPast → Option ℕ → Frame → HeardClaims
@@ -130,12 +137,13 @@ unfoldable pub past_with_frame : Settings → AuditPast → Option ℕ → Optio
 past_with_frame s past time named f packet = record past {
   interface = interface_behind past.interface named;
   newest = newest_behind s.stamps past.newest time;
+  before = time;
   claims = claims_with_frame s past time f;
   noted = past.noted ++ noted_newly s past time f packet;
   moments = with_packet_stream s time past.number (packet_with s.plan.timing (counted_for s past time f packet) f (broadcasts_there s past time f))
       (moments_with_frame s s past time f packet past.moments);
   by_load = moments_with_frame (judged_by_load s) s past time f packet past.by_load;
-  asking = asking_behind s (knowledge s (claims_before s past time)) (breaks s.stamps past.newest time) (begins_anew s.stamps past.newest time) time
+  asking = asking_behind s (knowledge s (claims_before s past time)) (gap_before s past time) (begins_anew s.stamps past.newest time) time
       f past.number (counted_for s past time f packet) (moments_with_frame s s past time f packet past.moments).since past.asking;
   broadcasts = broadcasts_behind s (knowledge s (claims_with_frame s past time f)) (counted_for s past time f packet) f (announcement_in packet) time
       (moments_with_frame s s past time f packet past.moments).since past.number (broadcasts_there s past time f);
@@ -444,10 +452,19 @@ pub record IsAuditedLog (s : Settings) (log text : List ℕ) (verdict : Verdict)
   pub text_is : text ≡ audit_text s (log_ended s past)
   pub verdict_is : verdict ≡ audit_verdict s (log_ended s past)
 
--- by a plan in which no addresses and no identifiers are wrong, of a whole log or a part of one, by a logger of this error
-pub record IsAudit (plan : Plan) (part : Bool) (stamps : ℕ) (log text : List ℕ) (verdict : Verdict) : Type 0 where
+-- by a plan in which no addresses and no identifiers are wrong, of a whole log or a part of one, by a logger of this error, with gaps of so many
+-- milliseconds or by the plan
+pub record IsAudit (plan : Plan) (part : Bool) (stamps : ℕ) (quiet : Option ℕ) (log text : List ℕ) (verdict : Verdict) : Type 0 where
   pub moving : List Bool
   pub moving_are : AreMoving plan moving
   pub responses : List (Option ℕ)
   pub responses_are : AreResponses plan responses
-  pub audited : IsAuditedLog (record { plan = plan; moving = moving; part = part; stamps = stamps; responses = responses; bound = Bus }) log text verdict
+  pub audited : IsAuditedLog (record {
+    plan = plan;
+    moving = moving;
+    part = part;
+    stamps = stamps;
+    quiet = quiet_by plan quiet;
+    responses = responses;
+    bound = Bus;
+  }) log text verdict

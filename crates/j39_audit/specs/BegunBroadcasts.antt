@@ -1,5 +1,5 @@
 -- Packets of broadcasts that a plan knows: of each unit the broadcast that it announced last, and which of its packets come too late.
-use Rattle.std.specs.Prelude.{ℕ, ◌+◌, ◌-◌, nat_lt, ◌==◌, ◌&&◌, not, Bool, if◌then◌else◌, List, [], ◌∷◌, ◌++◌, length, Option, Some, None, is_none}
+use Rattle.std.specs.Prelude.{ℕ, ◌+◌, ◌-◌, nat_lt, ◌==◌, ◌&&◌, not, Bool, if◌then◌else◌, List, [], ◌++◌, length, Option, Some, None, is_none}
 use Rattle.std.specs.List.{list_any}
 use Rattle.j39_id.specs.Addresses.{global_address}
 use Rattle.j39_id.specs.Ident.{pgn_of}
@@ -39,9 +39,9 @@ no_broadcasts = record { begun = λ u. None; late = [] }
 abbrev pub all_ended : BegunBroadcasts → BegunBroadcasts
 all_ended b = record b { begun = λ u. None }
 
--- just before a frame, where times begin anew or the log breaks off
+-- just before a frame, where times begin anew or a gap ends
 abbrev pub ended_before : Bool → Bool → BegunBroadcasts → BegunBroadcasts
-ended_before anew broken b = if anew then all_ended b else if broken then all_ended b else b
+ended_before anew gap b = if anew then all_ended b else if gap then all_ended b else b
 
 abbrev pub with_begun : ℕ → Option BegunBroadcast → (ℕ → Option BegunBroadcast) → ℕ → Option BegunBroadcast
 with_begun u one begun other = if u == other then one else begun other
@@ -131,7 +131,7 @@ packet_with _ _ f b = None
 
 -- just before a frame, and behind one
 unfoldable pub broadcasts_before : Bool → Bool → Ending → BegunBroadcasts → BegunBroadcasts
-broadcasts_before anew broken ending b = ended_with ending (ended_before anew broken b)
+broadcasts_before anew gap ending b = ended_with ending (ended_before anew gap b)
 
 unfoldable pub broadcasts_behind : Settings → Knowledge → Option ℕ → Frame → Option Announcement → Option ℕ → Option ℕ → ℕ → BegunBroadcasts → BegunBroadcasts
 broadcasts_behind s k unit f announced time idle line b = broadcasts_with_frame s k s.plan.timing unit f announced time idle line b

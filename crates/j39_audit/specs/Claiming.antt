@@ -1,9 +1,9 @@
 -- Who may be where, by the claims of a log alone: a log may begin in the midst of a drive, and who wins a contest isn't asked.
-use Rattle.std.specs.Prelude.{ℕ, nat_lt, ◌==◌, ◌||◌, ◌&&◌, not, Bool, false, if◌then◌else◌, List, [], ◌∷◌, Option, Some, None, is_none}
+use Rattle.std.specs.Prelude.{ℕ, min, nat_lt, ◌==◌, ◌||◌, ◌&&◌, not, Bool, false, if◌then◌else◌, List, [], ◌∷◌, Option, Some, None, is_none}
 use Rattle.std.specs.FinSet.{contains}
 use Rattle.std.specs.List.{list_any, slice_get}
 use Rattle.std.specs.Option.{option_map_or}
-use Rattle.j39_id.specs.Addresses.{in_pool, is_address}
+use Rattle.j39_id.specs.Addresses.{in_pool, is_address, null_address}
 use Rattle.j39_network.specs.declared.plan.unit_plan.UnitPlan.{UnitPlan}
 use Rattle.j39_audit.specs.Below.{any_below, first_below}
 use Rattle.j39_audit.specs.Settings.{Settings, moves, units_planned}
@@ -12,10 +12,11 @@ use Rattle.j39_audit.specs.declared.senders.SureSender.TheVariants.{Unit as OfUn
 
 -- ---- claims
 
--- a claim: the unit of its NAME, if it is one of the plan, and its source, 254 where none can be claimed
+-- a claim: the unit of its NAME, if it is one of the plan, its source, 254 where none can be claimed, and its NAME
 pub record Heard : Type 0 where
   pub unit : Option ℕ
   pub source : ℕ
+  pub name : ℕ
 
 -- the claims before a frame, the newest one first: all of them, and those from the last break on
 pub record HeardClaims : Type 0 where
@@ -41,10 +42,26 @@ unfoldable pub newest_of : ℕ → List Heard → Option ℕ
 newest_of u [] = None
 newest_of u (h ∷ older) = if is_at h.unit u then Some h.source else newest_of u older
 
--- what is known of the units and the addresses: where each unit claimed last, and which addresses were claimed by a NAME of no unit
+-- the smallest NAME that claimed the address
+abbrev pub smaller_name : ℕ → Option ℕ → ℕ
+smaller_name name None = name
+smaller_name name (Some other) = min name other
+
+unfoldable pub least_name : ℕ → List Heard → Option ℕ
+least_name a [] = None
+least_name a (h ∷ older) = if h.source == a then Some (smaller_name h.name (least_name a older)) else least_name a older
+
+-- the unit claimed the address
+unfoldable pub has_claimed : ℕ → ℕ → List Heard → Bool
+has_claimed u a claims = list_any (λ (h : Heard). is_at h.unit u && h.source == a) claims
+
+-- what is known of the units and the addresses: where each unit claimed last, which addresses were claimed by a NAME of no unit, the smallest NAME that
+-- claimed each, and which of them each unit claimed
 pub record Knowledge : Type 0 where
   pub last : ℕ → Option ℕ
   pub taken : ℕ → Bool
+  pub least : ℕ → Option ℕ
+  pub claimed : ℕ → ℕ → Bool
 
 -- a unit that may move may have moved unheard before a break, and any in a part of what the bus carried
 abbrev pub last_claim_of : Settings → HeardClaims → ℕ → Option ℕ
@@ -54,7 +71,12 @@ abbrev pub is_strangers : HeardClaims → ℕ → Bool
 is_strangers claims a = is_address a && list_any (λ (h : Heard). is_none h.unit && h.source == a) claims.all
 
 abbrev pub knowledge : Settings → HeardClaims → Knowledge
-knowledge s claims = record { last = last_claim_of s claims; taken = is_strangers claims }
+knowledge s claims = record {
+  last = last_claim_of s claims;
+  taken = is_strangers claims;
+  least = λ a. least_name a claims.all;
+  claimed = λ u a. has_claimed u a claims.all;
+}
 
 -- ---- addresses
 
@@ -106,3 +128,18 @@ sure_sender s k a (Some u) = if is_another_there s k a u then Unknown else OfUni
 -- who sends from an address, where that is sure: the one unit that may be there, or nobody
 unfoldable pub sender_at : Settings → Knowledge → ℕ → SureSender
 sender_at s k a = if is_strange s k a then Unknown else sure_sender s k a (first_there s k a)
+
+-- ---- who has to give way
+
+-- a NAME below this one claimed the address
+abbrev pub is_name_below : Option ℕ → ℕ → Bool
+is_name_below None name = false
+is_name_below (Some least) name = nat_lt least name
+
+-- and it is an address of the unit, or one that the unit claimed too
+abbrev pub is_lost_to_another : Settings → Knowledge → ℕ → ℕ → ℕ → Bool
+is_lost_to_another s k u name a = is_name_below (k.least a) name && (is_address_of s u a || k.claimed u a)
+
+-- so by SAE J1939-81 the unit, of this NAME, has to give way there, as often as it is asked
+unfoldable pub gives_way : Settings → Knowledge → ℕ → ℕ → Bool
+gives_way s k u name = any_below (is_lost_to_another s k u name) null_address

@@ -5,6 +5,7 @@ pub mod Below
 pub mod Breaks
 pub mod Claiming
 pub mod Counting
+pub mod Gaps
 pub mod Looking
 pub mod MessageStreams
 pub mod Moments

@@ -1,10 +1,12 @@
 -- What is noted at a frame.
 use Rattle.std.specs.Prelude.{ℕ, nat_le, nat_lt, ◌==◌, ◌||◌, ◌&&◌, not, Bool, true, false, if◌then◌else◌, List, [], ◌∷◌, ◌++◌, length, Option, Some, None, is_some}
+use Rattle.std.specs.FinSet.{contains}
 use Rattle.std.specs.List.{slice_get}
 use Rattle.std.specs.Option.{option_map_or}
-use Rattle.j39_id.specs.Addresses.{is_address, null_address}
+use Rattle.j39_id.specs.Addresses.{in_pool, is_address, null_address}
 use Rattle.j39_id.specs.FrameMeaning.{cannot_claim, claims_address, name_in, requested_group, requests_group}
 use Rattle.j39_id.specs.Ident.{pgn_of}
+use Rattle.j39_id.specs.Name.{is_arbitrary}
 use Rattle.j39_id.specs.Pgn.{is_pdu2}
 use Rattle.j39_id.specs.Services.{address_claimed, connection_management, data_transfer, request}
 use Rattle.j39_id.specs.declared.frame.Frame.{Frame}
@@ -14,7 +16,7 @@ use Rattle.j39_follow.specs.Who.{unit_of_name}
 use Rattle.j39_log.specs.LogFrames.{IsPacket}
 use Rattle.j39_tp.specs.declared.packet.Packet.{Packet}
 use Rattle.j39_tp.specs.declared.packet.Packet.TheVariants.{Rts, Bam}
-use Rattle.j39_audit.specs.Claiming.{HeardClaims, Heard, Knowledge, has_strangers, is_address_of, knowledge, sender_at, with_claim}
+use Rattle.j39_audit.specs.Claiming.{HeardClaims, Heard, Knowledge, gives_way, has_strangers, is_address_of, knowledge, sender_at, with_claim}
 use Rattle.j39_audit.specs.Counting.{Noted}
 use Rattle.j39_audit.specs.SentMessages.{SentMessage, deviation, first_group, flows_noted, noted_at, requests_noted}
 use Rattle.j39_audit.specs.Settings.{Settings}
@@ -60,18 +62,34 @@ is_claiming s u = option_map_or (λ (unit : UnitPlan). unit.claims) (slice_get s
 abbrev pub noted_with : ℕ → Word → ℕ → ℕ → Noted
 noted_with line word subject detail = record { mark = record { word = word; subject = subject; group = 0 }; line = line; detail = detail }
 
--- a claim of a unit: it says that it can't, or claims where it may not or without leave; and its priority
-abbrev pub claim_place : Settings → Frame → ℕ → ℕ → List Noted
-claim_place s f line u =
-    if f.ident.sa == null_address then noted_at line Cannot u 0 ∷ []
-    else noted_if (not (is_address_of s u f.ident.sa && is_claiming s u)) (noted_with line Address u f.ident.sa)
+-- a unit that claims, by this NAME, has to give way to others that claimed before
+abbrev pub has_to_give_way : Settings → Knowledge → ℕ → ℕ → Bool
+has_to_give_way s k name u = is_claiming s u && gives_way s k u name
 
-abbrev pub claim_of_unit : Settings → Frame → ℕ → ℕ → List Noted
-claim_of_unit s f line u = claim_place s f line u ++ noted_if (is_above_unplanned s f) (noted_at line Urgent u 0)
+-- then it says that it can't claim an address, where its NAME doesn't let it choose
+abbrev pub has_to_say_cannot : Settings → Knowledge → ℕ → ℕ → Bool
+has_to_say_cannot s k name u = not (is_arbitrary name) && has_to_give_way s k name u
 
-abbrev pub claim_noted : Settings → Frame → ℕ → Option ℕ → List Noted
-claim_noted s f line None = noted_if (not (has_strangers s)) (noted_with line Stranger f.ident.sa (name_in f))
-claim_noted s f line (Some u) = claim_of_unit s f line u
+-- and else it may claim each of 128 to 247 that isn't kept free
+abbrev pub may_move_to : Settings → Knowledge → ℕ → ℕ → ℕ → Bool
+may_move_to s k name u a = is_arbitrary name && ((in_pool a && not (contains s.plan.keep_free a)) && has_to_give_way s k name u)
+
+-- or it claims one of its own
+abbrev pub may_claim : Settings → Knowledge → ℕ → ℕ → ℕ → Bool
+may_claim s k name u a = (is_address_of s u a && is_claiming s u) || may_move_to s k name u a
+
+-- a claim of a unit: it says that it can't, or claims where it may not or without leave, though it needn't; and its priority
+abbrev pub claim_place : Settings → Knowledge → Frame → ℕ → ℕ → List Noted
+claim_place s k f line u =
+    if f.ident.sa == null_address then noted_if (not (has_to_say_cannot s k (name_in f) u)) (noted_at line Cannot u 0)
+    else noted_if (not (may_claim s k (name_in f) u f.ident.sa)) (noted_with line Address u f.ident.sa)
+
+abbrev pub claim_of_unit : Settings → Knowledge → Frame → ℕ → ℕ → List Noted
+claim_of_unit s k f line u = claim_place s k f line u ++ noted_if (is_above_unplanned s f) (noted_at line Urgent u 0)
+
+abbrev pub claim_noted : Settings → Knowledge → Frame → ℕ → Option ℕ → List Noted
+claim_noted s k f line None = noted_if (not (has_strangers s)) (noted_with line Stranger f.ident.sa (name_in f))
+claim_noted s k f line (Some u) = claim_of_unit s k f line u
 
 -- ---- other frames
 
@@ -146,7 +164,7 @@ abbrev pub is_claim : Frame → Bool
 is_claim f = claims_address f || cannot_claim f
 
 abbrev pub claimant : Settings → Frame → Heard
-claimant s f = record { unit = unit_of_name s.plan (name_in f); source = f.ident.sa }
+claimant s f = record { unit = unit_of_name s.plan (name_in f); source = f.ident.sa; name = name_in f }
 
 -- the claims behind a frame
 abbrev pub claims_behind : Settings → Frame → HeardClaims → HeardClaims
@@ -155,7 +173,7 @@ claims_behind s f claims = if is_claim f then with_claim (claimant s f) claims e
 -- what is noted at a frame, these being the claims before it
 abbrev pub frame_noted : Settings → HeardClaims → Frame → Option Packet → ℕ → List Noted
 frame_noted s claims f packet line =
-    if is_claim f then claim_noted s f line (unit_of_name s.plan (name_in f))
+    if is_claim f then claim_noted s (knowledge s claims) f line (unit_of_name s.plan (name_in f))
     else if is_address f.ident.sa then sent_noted s (knowledge s claims) f packet line (sender_at s (knowledge s claims) f.ident.sa)
     else []
 

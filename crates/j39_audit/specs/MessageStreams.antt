@@ -19,7 +19,7 @@ use Rattle.j39_audit.specs.Settings.{Settings, response_of}
 use Rattle.j39_audit.specs.declared.by_load.Bound.{Bound}
 use Rattle.j39_audit.specs.declared.by_load.Bound.TheVariants.{Bus, Load}
 use Rattle.j39_audit.specs.declared.mark.Mark.{Mark}
-use Rattle.j39_audit.specs.declared.mark.Word.TheVariants.{Seen, Asked, Counted, NearFlow, NearRequest}
+use Rattle.j39_audit.specs.declared.mark.Word.TheVariants.{Seen, Asked, Counted, Layout, NoFlow, Priority, NearFlow, NearRequest}
 use Rattle.j39_audit.specs.declared.mark.Word.{Word}
 use Rattle.j39_audit.specs.declared.streams.FlowPause.{FlowPause}
 use Rattle.j39_audit.specs.declared.streams.MessageStream.{MessageStream}
@@ -125,19 +125,22 @@ asked_stream s t f n = option_and_then (λ (period : ℕ). paced_request s t f n
 
 -- ---- a frame
 
--- of which flow and of which request a frame is seen, and for which unit it counts, by what was noted of it
+-- of which flow and of which request a frame is seen, for which unit it counts, and from which of its groups a message deviates, by what was noted of it
 abbrev pub nothing_sighted : Sighting
-nothing_sighted = record { flow = None; request = None; unit = None }
+nothing_sighted = record { flow = None; request = None; unit = None; deviating = None }
 
-abbrev pub sighted_as : Word → ℕ → Sighting → Sighting
-sighted_as Seen n w = record w { flow = Some n }
-sighted_as Asked n w = record w { request = Some n }
-sighted_as Counted n w = record w { unit = Some n }
-sighted_as _ n w = w
+abbrev pub sighted_as : Word → ℕ → ℕ → Sighting → Sighting
+sighted_as Seen n g w = record w { flow = Some n }
+sighted_as Asked n g w = record w { request = Some n }
+sighted_as Counted n g w = record w { unit = Some n }
+sighted_as Layout n g w = record w { deviating = Some g }
+sighted_as NoFlow n g w = record w { deviating = Some g }
+sighted_as Priority n g w = record w { deviating = Some g }
+sighted_as _ n g w = w
 
 abbrev pub sighted_behind : Sighting → List Noted → Sighting
 sighted_behind w [] = w
-sighted_behind w (n ∷ rest) = sighted_behind (sighted_as n.mark.word n.mark.subject w) rest
+sighted_behind w (n ∷ rest) = sighted_behind (sighted_as n.mark.word n.mark.subject n.mark.group w) rest
 
 -- the stream of which a frame is a message
 abbrev pub sighted_stream : Settings → Timing → Frame → Option ℕ → Option ℕ → Option MessageStream

@@ -13,7 +13,7 @@ use Rattle.j39_audit.specs.Breaks.{is_set_back}
 use Rattle.j39_audit.specs.Counting.{Key, Noted, is_same_key, key_of, noted_by}
 use Rattle.j39_audit.specs.Near.{candidate, earliest_next, excess}
 use Rattle.j39_audit.specs.MessageStreams.{flow_pause, nothing_sighted, sighted_behind, sighted_stream, stream_mark}
-use Rattle.j39_audit.specs.Pauses.{is_with_unit, last_of_ends, unclear_behind}
+use Rattle.j39_audit.specs.Pauses.{is_with_unit, last_of_ends, stands_for, unclear_behind}
 use Rattle.j39_audit.specs.Settings.{Settings, logger_error, units_planned}
 use Rattle.j39_audit.specs.Silence.{lag, latest_next}
 use Rattle.j39_audit.specs.declared.by_load.Bound.{Bound}
@@ -90,14 +90,14 @@ is_apart stamps t bytes time (Some before) = nat_lt (before + (reach_back t byte
 
 -- so the bit before it was idle; frames of the bus that are missing in the log show none
 abbrev pub shows_idle : Settings → Timing → Bool → ℕ → ℕ → Option ℕ → Bool
-shows_idle s t broken bytes time before = not s.part && (not broken && (leaves_idle t && is_apart (logger_error s) t bytes time before))
+shows_idle s t gap bytes time before = not s.part && (not gap && (leaves_idle t && is_apart (logger_error s) t bytes time before))
 
 abbrev pub idle_mark : Settings → Timing → ℕ → ℕ → ℕ
 idle_mark s t bytes time = time + long_before - (reach_back t bytes + logger_error s)
 
 -- behind a frame of this time and so many bytes, with one of this time in the line before, and this mark before it
 abbrev pub idle_behind : Settings → Timing → Bool → ℕ → ℕ → Option ℕ → Option ℕ → Option ℕ
-idle_behind s t broken bytes time before idle = if shows_idle s t broken bytes time before then Some (idle_mark s t bytes time) else idle
+idle_behind s t gap bytes time before idle = if shows_idle s t gap bytes time before then Some (idle_mark s t bytes time) else idle
 
 -- a frame of this time ended no earlier
 abbrev pub earliest_end : Settings → ℕ → ℕ
@@ -105,10 +105,10 @@ earliest_end s time = time + long_before - logger_error s
 
 -- so what is sent from here on was queued since the idle mark, and by load it has ended since the frame at hand did
 abbrev pub since_behind : Settings → Timing → Bool → ℕ → ℕ → Option ℕ → Option ℕ → Option ℕ
-since_behind s t broken bytes time before since = since_by s.bound (idle_behind s t broken bytes time before since) (earliest_end s time)
+since_behind s t gap bytes time before since = since_by s.bound (idle_behind s t gap bytes time before since) (earliest_end s time)
 
 abbrev pub with_moment : Settings → Timing → Bool → ℕ → ℕ → Moments → Moments
-with_moment s t broken bytes time m = record m { before = Some time; since = since_behind s t broken bytes time m.before m.since }
+with_moment s t gap bytes time m = record m { before = Some time; since = since_behind s t gap bytes time m.before m.since }
 
 -- ---- messages
 
@@ -210,6 +210,10 @@ with_ending s t Nothing m = m
 with_ending s t (OfUnit u) m = unit_pauses_ended s t u m
 with_ending s t OfAll m = all_pauses_ended s m
 
+-- a message of the unit deviates: without a look those of the flows end for which it stands
+abbrev pub with_deviating : Settings → Option ℕ → Option ℕ → Moments → Moments
+with_deviating s group unit m = record m { newest = λ n. if stands_for s.plan group unit n then None else m.newest n }
+
 -- a frame that counts for a unit
 abbrev pub with_frame_of : ℕ → ℕ → Moments → Moments
 with_frame_of u line m = record m { last = with_last_frame u (Some (record { line = line; since = m.since })) m.last }
@@ -224,17 +228,17 @@ abbrev pub with_packet_stream : Settings → Option ℕ → ℕ → Option Messa
 with_packet_stream s (Some time) line (Some stream) m = with_message stream (moment_window s stream.slack time m.since) line m
 with_packet_stream s _ line _ m = m
 
--- ---- gaps
+-- ---- where all ends
 
 -- a line that is bad: a frame may be missing
 abbrev pub behind_bad : Settings → Moments → Moments
 behind_bad s m = behind_gap (all_pauses_ended s m)
 
--- just before a frame where times begin anew, or where the log breaks off
+-- just before a frame where times begin anew, or where a gap ends
 abbrev pub begun_anew : Settings → Bool → Bool → Moments → Moments
-begun_anew s anew broken m =
+begun_anew s anew gap m =
     if anew then record (all_pauses_ended s m) { before = None; since = None; earliest = λ key. None }
-    else if broken then pauses_dropped m else m
+    else if gap then all_pauses_ended s m else m
 
 -- ---- a frame
 
@@ -247,12 +251,12 @@ with_stream s time line (Some stream) m =
 
 -- behind a frame of this time that is seen so, may be a message of each of several flows, and ends these pauses
 abbrev pub with_time : Settings → Option Timing → Bool → Option ℕ → Frame → ℕ → Sighting → List ℕ → Ending → Moments → Moments
-with_time s (Some t) broken (Some time) f line w unclear ending m =
-    with_counted s w.unit line (with_stream s time line (sighted_stream s t f w.flow w.request)
-    (listed_pauses_ended s t unclear (length unclear) (with_ending s t ending (with_moment s t broken (length f.payload.items) time m))))
-with_time s _ broken _ f line w unclear ending m = m
+with_time s (Some t) gap (Some time) f line w unclear ending m =
+    with_counted s w.unit line (with_stream s time line (sighted_stream s t f w.flow w.request) (with_deviating s w.deviating w.unit
+    (listed_pauses_ended s t unclear (length unclear) (with_ending s t ending (with_moment s t gap (length f.payload.items) time m)))))
+with_time s _ gap _ f line w unclear ending m = m
 
 -- and of which this was noted
 unfoldable pub moments_behind : Settings → Bool → Bool → Option ℕ → Frame → ℕ → List Noted → Ending → Moments → Moments
-moments_behind s broken anew time f line noted ending m =
-    with_time s s.plan.timing broken time f line (sighted_behind nothing_sighted noted) (unclear_behind [] noted) ending (begun_anew s anew broken m)
+moments_behind s gap anew time f line noted ending m =
+    with_time s s.plan.timing gap time f line (sighted_behind nothing_sighted noted) (unclear_behind [] noted) ending (begun_anew s anew gap m)

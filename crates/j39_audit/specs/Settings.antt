@@ -9,12 +9,14 @@ use Rattle.j39_audit.specs.declared.by_load.Bound.{Bound}
 use Rattle.j39_audit.specs.declared.by_load.Bound.TheVariants.{Load}
 
 -- the plan, which of its units may move to other addresses, whether frames of the bus may be missing in the log, by how many microseconds the
--- time of a line may differ from the end of its frame, how long each flow takes to be sent, and by what the earliest moment of a message is known
+-- time of a line may differ from the end of its frame, how many milliseconds without a frame are a gap, how long each flow takes to be sent, and by what
+-- the earliest moment of a message is known
 pub record Settings : Type 0 where
   pub plan : Plan
   pub moving : List Bool
   pub part : Bool
   pub stamps : ℕ
+  pub quiet : ℕ
   pub responses : List (Option ℕ)
   pub bound : Bound
 

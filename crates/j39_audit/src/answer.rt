@@ -1,6 +1,7 @@
 //! What the audit command writes.
 ghost use Rattle.std.specs.Prelude.{◌≡◌, IfOk};
 ghost use Rattle.j39_audit.specs.AuditText.{IsAudit};
+ghost use Rattle.j39_audit.specs.Gaps.{quiet_by};
 ghost use Rattle.j39_audit.specs.Responses.{AreResponses};
 ghost use Rattle.j39_audit.specs.Settings.{AreMoving};
 ghost use Rattle.j39_audit.specs.declared.by_load.Bound.TheVariants.{Bus};
@@ -11,6 +12,7 @@ ghost use Rattle.j39_stream.specs.Streams.{log_limits};
 use crate::audit_log::AuditLog;
 use crate::basis::{Basis, moving_of, sent_of};
 use crate::by_load::{Bound, responses_of};
+use crate::gaps::quiet_by;
 use crate::reading::read_log;
 use crate::summary::write_audit;
 use j39_network::Plan;
@@ -44,14 +46,16 @@ fn put_report<W: Sink>(alloc: Global, log: &AuditLog<'_>, sink: &mut W) -> Comma
 fn audit_by<S: Source, W: Sink>(
     alloc: Global,
     basis: Basis<'_>,
+    quiet: Option<u64>,
     source: &mut S,
     sink: &mut W,
 ) -> CommandResult
+    requires quiet { basis.quiet ≡ quiet_by basis.plan.now quiet }
     requires moving { AreMoving basis.plan.now basis.moving.now }
     requires responses { AreResponses basis.plan.now basis.responses.now }
     requires bus { basis.bound ≡ Bus }
-    ensures { AnswersWhole (IsAudit basis.entry.plan.now basis.entry.part basis.entry.stamps)
-        (IsOfAny (IsAudit basis.entry.plan.now basis.entry.part basis.entry.stamps)) log_limits
+    ensures { AnswersWhole (IsAudit basis.entry.plan.now basis.entry.part basis.entry.stamps quiet)
+        (IsOfAny (IsAudit basis.entry.plan.now basis.entry.part basis.entry.stamps quiet)) log_limits
         (S.state source.old) (S.state source.new) W.state sink.old sink.new result }
 {
     let mut log = AuditLog::new(alloc, basis)?;
@@ -60,16 +64,17 @@ fn audit_by<S: Source, W: Sink>(
 }
 
 /// Writes which premises of a plan a log of its bus refutes, of which unit or flow, and at which lines, once the log
-/// was read to its end.
+/// was read to its end. A gap is so many milliseconds without a frame, or as the plan has it.
 pub fn audit_text<S: Source, W: Sink>(
     alloc: Global,
     plan: &Plan,
     part: bool,
     stamps: u64,
+    quiet: Option<u64>,
     source: &mut S,
     sink: &mut W,
 ) -> CommandResult
-    ensures { AnswersWhole (IsAudit plan.now part stamps) (IsOfAny (IsAudit plan.now part stamps)) log_limits
+    ensures { AnswersWhole (IsAudit plan.now part stamps quiet) (IsOfAny (IsAudit plan.now part stamps quiet)) log_limits
         (S.state source.old) (S.state source.new) W.state sink.old sink.new result }
 {
     let moving = moving_of(alloc, plan)?;
@@ -81,8 +86,9 @@ pub fn audit_text<S: Source, W: Sink>(
         sent: &sent,
         part,
         stamps,
+        quiet: quiet_by(plan, quiet),
         responses: &responses,
         bound: Bound::Bus,
     };
-    audit_by(alloc, basis, source, sink)
+    audit_by(alloc, basis, quiet, source, sink)
 }

@@ -141,12 +141,12 @@ impl Asking {
         }
     }
 
-    // Forgets them just before a frame, where times begin anew or the log breaks off.
-    fn begin(&mut self, basis: &Basis<'_>, anew: bool, broken: bool)
+    // Forgets them just before a frame, where times begin anew or a gap ends.
+    fn begin(&mut self, basis: &Basis<'_>, anew: bool, gap: bool)
         ensures { (a : AnAsking) → RecallsAsking (settings_of basis.now) self.old a
-            → RecallsAsking (settings_of basis.now) self.new (asked_before anew broken a) }
+            → RecallsAsking (settings_of basis.now) self.new (asked_before anew gap a) }
     {
-        if anew || broken {
+        if anew || gap {
             self.forget_all(basis);
         }
     }
@@ -243,12 +243,12 @@ impl Asking {
         }
     }
 
-    /// Takes a frame of this time, just before which the log breaks off and times begin anew, or they don't.
+    /// Takes a frame of this time, just before which a gap ends and times begin anew, or they don't.
     pub fn take(
         &mut self,
         basis: &Basis<'_>,
         known: &Known,
-        broken: bool,
+        gap: bool,
         anew: bool,
         time: Option<u64>,
         frame: &Frame,
@@ -257,9 +257,9 @@ impl Asking {
         requires { IfSome time (λ t. t < 2 ^ 61) }
         ensures { (a : AnAsking) → RecallsAsking (settings_of basis.now) self.old a
             → RecallsAsking (settings_of basis.now) self.new
-            (asked_behind (settings_of basis.now) (known_by known.now) broken anew time frame.now line a) }
+            (asked_behind (settings_of basis.now) (known_by known.now) gap anew time frame.now line a) }
     {
-        self.begin(basis, anew, broken);
+        self.begin(basis, anew, gap);
         self.take_answer(basis, frame);
         self.take_timed(basis, known, time, frame, line);
     }

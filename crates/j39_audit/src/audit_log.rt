@@ -21,6 +21,7 @@ use crate::asking::Asking;
 use crate::basis::Basis;
 use crate::broadcasts::BegunBroadcasts;
 use crate::frame_marks::{note_if, take_frame};
+use crate::gaps::ends_gap;
 use crate::known::Known;
 use crate::mark::{Mark, Word, make_mark};
 use crate::moments::{Moments, Seen};
@@ -42,6 +43,8 @@ pub(crate) struct AuditLog<'a> {
     // The interface of the first line that names one: the log's.
     pub interface: Option<Vec<u8>>,
     pub newest: Option<u64>,
+    // The time of the frame before.
+    pub before: Option<u64>,
     pub known: Known,
     pub tally: MarkTally,
     // What times report by the bus, and by load.
@@ -174,6 +177,7 @@ impl<'a> AuditLog<'a> {
             number: 0,
             interface: None,
             newest: None,
+            before: None,
             known,
             tally: MarkTally::new(alloc),
             moments,
@@ -202,11 +206,11 @@ impl<'a> AuditLog<'a> {
         }
     }
 
-    // Takes what times report of a frame of this time that was noted, just before which the log breaks off and times begin
+    // Takes what times report of a frame of this time that was noted, just before which a gap ends and times begin
     // anew, or they don't, at which these pauses end, and which announces this.
     fn take_times(
         &mut self,
-        broken: bool,
+        gap: bool,
         anew: bool,
         time: Option<u64>,
         frame: &Frame,
@@ -220,7 +224,7 @@ impl<'a> AuditLog<'a> {
         ensures times { OnOk result ((past : AuditPast) (noted : List Noted) → RecallsTimes (settings_of self.old.basis) self.old past
             → self.old.tally.sighting ≡ sighted_behind nothing_sighted noted → self.old.tally.unclear.items ≡ unclear_behind [] noted
             → RecallsTimes (settings_of self.old.basis) self.new
-            (times_behind (settings_of self.old.basis) (known_by self.old.known) broken anew time frame.now self.old.number noted ending announced past)) }
+            (times_behind (settings_of self.old.basis) (known_by self.old.known) gap anew time frame.now self.old.number noted ending announced past)) }
     {
         let seen = Seen {
             sighting: self.tally.sighting,
@@ -228,10 +232,10 @@ impl<'a> AuditLog<'a> {
             ending,
         };
         self.moments
-            .look(&self.basis, broken, anew, time, frame, seen, self.number)?;
+            .look(&self.basis, gap, anew, time, frame, seen, self.number)?;
         self.by_load.look(
             &self.basis.by_load(),
-            broken,
+            gap,
             anew,
             time,
             frame,
@@ -268,7 +272,15 @@ impl<'a> AuditLog<'a> {
             → TakesFrame self.new past time named frame.now) }
     {
         let broken = breaks(self.basis.stamps, self.newest, time);
+        let gap = ends_gap(
+            self.basis.stamps,
+            self.basis.quiet,
+            self.newest,
+            self.before,
+            time,
+        );
         let anew = begins_anew(self.basis.stamps, self.newest, time);
+        self.before = time;
         self.newest = newest_behind(self.basis.stamps, self.newest, time);
         self.tally.look_at_next();
         take_break(
@@ -282,13 +294,13 @@ impl<'a> AuditLog<'a> {
         self.asking.take(
             &self.basis,
             &self.known,
-            broken,
+            gap,
             anew,
             time,
             frame,
             self.number,
         );
-        self.broadcasts.come_to(&self.basis, anew, broken, ending);
+        self.broadcasts.come_to(&self.basis, anew, gap, ending);
         let packet = transport_packet(frame);
         let announced = announcement_in(&packet);
         take_frame(
@@ -299,7 +311,7 @@ impl<'a> AuditLog<'a> {
             packet,
             self.number,
         )?;
-        self.take_times(broken, anew, time, frame, ending, announced)?;
+        self.take_times(gap, anew, time, frame, ending, announced)?;
         Ok(())
     }
 

@@ -11,8 +11,9 @@ use j39_network::{FlowPlan, Plan, UnitPlan};
 use std::alloc::{AllocError, Global};
 
 /// The plan, which of its units may move to other addresses, of which groups each has flows, whether frames of the bus may
-/// be missing in the log, by how many microseconds the time of a line may differ from the end of its frame, how long each
-/// flow takes to be sent, and by what it is known how early the moment of a message may have been.
+/// be missing in the log, by how many microseconds the time of a line may differ from the end of its frame, how many
+/// milliseconds without a frame are a gap, how long each flow takes to be sent, and by what it is known how early the
+/// moment of a message may have been.
 #[derive(Clone, Copy)]
 pub(crate) struct Basis<'a> {
     pub plan: &'a Plan,
@@ -20,6 +21,7 @@ pub(crate) struct Basis<'a> {
     pub sent: &'a [Vec<bool>],
     pub part: bool,
     pub stamps: u64,
+    pub quiet: u64,
     pub responses: &'a [Option<u64>],
     pub bound: Bound,
     pub ghost sent_so: { AreSent plan.now sent.now },

@@ -146,12 +146,12 @@ impl BegunBroadcasts {
         }
     }
 
-    // Forgets them just before a frame, where times begin anew or the log breaks off.
-    fn begin(&mut self, basis: &Basis<'_>, anew: bool, broken: bool)
+    // Forgets them just before a frame, where times begin anew or a gap ends.
+    fn begin(&mut self, basis: &Basis<'_>, anew: bool, gap: bool)
         ensures { (b : SomeBroadcasts) → RecallsBroadcasts (settings_of basis.now) self.old b
-            → RecallsBroadcasts (settings_of basis.now) self.new (ended_before anew broken b) }
+            → RecallsBroadcasts (settings_of basis.now) self.new (ended_before anew gap b) }
     {
-        if anew || broken {
+        if anew || gap {
             self.forget_all(basis);
         }
     }
@@ -168,14 +168,14 @@ impl BegunBroadcasts {
         }
     }
 
-    /// Comes to a frame, just before which the log breaks off and times begin anew, or they don't, and at which these
+    /// Comes to a frame, just before which a gap ends and times begin anew, or they don't, and at which these
     /// pauses end.
     #[tactic(auto, unfolding(crate::specs::BegunBroadcasts::broadcasts_before))]
-    pub fn come_to(&mut self, basis: &Basis<'_>, anew: bool, broken: bool, ending: Ending)
+    pub fn come_to(&mut self, basis: &Basis<'_>, anew: bool, gap: bool, ending: Ending)
         ensures { (b : SomeBroadcasts) → RecallsBroadcasts (settings_of basis.now) self.old b
-            → RecallsBroadcasts (settings_of basis.now) self.new (broadcasts_before anew broken ending b) }
+            → RecallsBroadcasts (settings_of basis.now) self.new (broadcasts_before anew gap ending b) }
     {
-        self.begin(basis, anew, broken);
+        self.begin(basis, anew, gap);
         self.end(basis, ending);
     }
 

@@ -81,16 +81,16 @@ fn is_apart(stamps: u64, timing: Timing, bytes: usize, time: u64, before: Option
 fn shows_idle(
     basis: &Basis<'_>,
     timing: Timing,
-    broken: bool,
+    gap: bool,
     bytes: usize,
     time: u64,
     before: Option<u64>,
 ) -> bool
     requires { bytes < 2 ^ 16 }
-    ensures { result ≡ shows_idle (settings_of basis.now) timing broken bytes time before }
+    ensures { result ≡ shows_idle (settings_of basis.now) timing gap bytes time before }
 {
     !basis.part
-        && !broken
+        && !gap
         && leaves_idle(timing)
         && is_apart(basis.logger_error(), timing, bytes, time, before)
 }
@@ -119,7 +119,7 @@ fn earliest_end(basis: &Basis<'_>, time: u64) -> u64
 pub(crate) fn since_behind(
     basis: &Basis<'_>,
     timing: Timing,
-    broken: bool,
+    gap: bool,
     bytes: usize,
     time: u64,
     before: Option<u64>,
@@ -128,12 +128,12 @@ pub(crate) fn since_behind(
     requires bytes { bytes < 2 ^ 16 }
     requires time { time < 2 ^ 61 }
     requires near { IfSome since (λ q. q < far_ahead) }
-    ensures value { result ≡ since_behind (settings_of basis.now) timing broken bytes time before since }
+    ensures value { result ≡ since_behind (settings_of basis.now) timing gap bytes time before since }
     ensures few { IfSome result (λ q. q < far_ahead) }
 {
     match basis.bound {
         Bound::Bus => {
-            if shows_idle(basis, timing, broken, bytes, time, before) {
+            if shows_idle(basis, timing, gap, bytes, time, before) {
                 Some(idle_mark(basis, timing, bytes, time))
             } else {
                 since

@@ -6,6 +6,7 @@ ghost use Rattle.j39_signal.specs.Selectors.{is_selected};
 ghost use Rattle.j39_network.specs.declared.plan.group_plan.GroupPlan.{GroupPlan as AGroup};
 ghost use Rattle.j39_audit.specs.SentMessages.{asks_by_plan, deviation, first_group, fits_group, goes, has_priority, is_fit};
 ghost use Rattle.j39_audit.specs.SentMessages.{is_fit_group, is_group, is_near, is_of, is_own, is_reported_by, may_hear, passes};
+ghost use Rattle.j39_audit.specs.Pauses.{group_has_number};
 ghost use Rattle.j39_audit.specs.SentMessages.{flow_group, without_flow};
 ghost use Rattle.j39_audit.specs.declared.messages.Test.TheVariants.{Any, Fitting, Selected};
 ghost use Rattle.j39_audit.specs.inside.Recalling.{known_by, sent_as, settings_of};
@@ -205,9 +206,9 @@ pub(crate) fn is_of(
     is_fit(basis, known, message, flow) && has_priority(basis, message, flow.group)
 }
 
-// Whether the group at a place has this number.
-fn has_number(basis: &Basis<'_>, place: usize, number: u32) -> bool
-    ensures { result ≡ option_map_or (λ (group : AGroup). group.pgn == number) (slice_get basis.now.plan.now.groups.items place) false }
+/// Whether the group at a place has this number.
+pub(crate) fn has_number(basis: &Basis<'_>, place: usize, number: u32) -> bool
+    ensures { result ≡ group_has_number basis.now.plan.now place number }
 {
     match basis.plan.groups.get(place) {
         Some(group) => group.pgn == number,

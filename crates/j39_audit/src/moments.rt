@@ -1,8 +1,8 @@
 //! What the times of a log report of the moments of messages.
-ghost use Rattle.std.specs.Prelude.{◌≡◌, ◌<◌, ◌≤◌, ◌^◌, ◌++◌, [], ℕ, List, Option, IfOk, IfSome, OnOk, Some, length};
+ghost use Rattle.std.specs.Prelude.{◌≡◌, ◌<◌, ◌≤◌, ◌^◌, ◌++◌, [], ℕ, if◌then◌else◌, List, Option, IfOk, IfSome, OnOk, Some, length};
 ghost use Rattle.std.specs.Option.{option_map};
 ghost use Rattle.j39_audit.specs.Counting.{Noted};
-ghost use Rattle.j39_audit.specs.Moments.{Moments as AMoments, begun_anew, behind_bad, behind_gap, lower_bound, moments_behind, no_moments, with_moment};
+ghost use Rattle.j39_audit.specs.Moments.{Moments as AMoments, all_pauses_ended, begun_anew, behind_bad, behind_gap, lower_bound, moments_behind, no_moments, with_moment};
 ghost use Rattle.j39_audit.specs.Moments.{listed_pauses_ended, moment_window, with_counted, with_ending, with_frame_of, with_message, with_packet_stream, with_stream, with_time};
 ghost use Rattle.j39_audit.specs.MessageStreams.{nothing_sighted, sighted_behind, sighted_stream};
 ghost use Rattle.j39_audit.specs.Pauses.{unclear_behind};
@@ -33,8 +33,8 @@ pub(crate) struct Moments {
     pub pauses: Pauses,
 }
 
-/// What there is to a frame: of which flow or request it is seen, of which flows it may be, for whom it counts, and whose
-/// pauses end at it.
+/// What there is to a frame: of which flow or request it is seen, of which flows it may be, for whom it counts, from which
+/// group it deviates, and whose pauses end at it.
 #[derive(Clone, Copy)]
 pub(crate) struct Seen<'a> {
     pub sighting: Sighting,
@@ -105,41 +105,43 @@ impl Moments {
         Ok(())
     }
 
-    // Begins anew, where times do, and drops pauses, where the log breaks off.
-    fn begin(&mut self, basis: &Basis<'_>, anew: bool, broken: bool) -> Result<(), AllocError>
+    // Ends pauses, where a gap ends.
+    fn end_at_gap(&mut self, basis: &Basis<'_>, gap: bool) -> Result<(), AllocError>
         requires near { AreNear self.old }
         ensures near { OnOk result (AreNear self.new) }
         ensures moments { OnOk result ((m : AMoments) → RecallsMoments self.old m
-            → RecallsMoments self.new (begun_anew (settings_of basis.now) anew broken m)) }
+            → RecallsMoments self.new (if gap then all_pauses_ended (settings_of basis.now) m else m)) }
     {
-        if anew {
-            self.end_all(basis)?;
-            self.before = None;
-            self.since = None;
-            self.earliest.forget();
-        } else if broken {
-            self.pauses.forget();
+        if gap { self.end_all(basis) } else { Ok(()) }
+    }
+
+    // Begins anew, where times do, and ends pauses, where a gap ends.
+    fn begin(&mut self, basis: &Basis<'_>, anew: bool, gap: bool) -> Result<(), AllocError>
+        requires near { AreNear self.old }
+        ensures near { OnOk result (AreNear self.new) }
+        ensures moments { OnOk result ((m : AMoments) → RecallsMoments self.old m
+            → RecallsMoments self.new (begun_anew (settings_of basis.now) anew gap m)) }
+    {
+        if !anew {
+            return self.end_at_gap(basis, gap);
         }
+        self.end_all(basis)?;
+        self.before = None;
+        self.since = None;
+        self.earliest.forget();
         Ok(())
     }
 
     // Takes the time of a frame of so many bytes.
-    fn take_time(
-        &mut self,
-        basis: &Basis<'_>,
-        timing: Timing,
-        broken: bool,
-        bytes: usize,
-        time: u64,
-    )
+    fn take_time(&mut self, basis: &Basis<'_>, timing: Timing, gap: bool, bytes: usize, time: u64)
         requires bytes { bytes < 2 ^ 16 }
         requires time { time < 2 ^ 61 }
         requires near { AreNear self.old }
         ensures near { AreNear self.new }
         ensures moments { (m : AMoments) → RecallsMoments self.old m
-            → RecallsMoments self.new (with_moment (settings_of basis.now) timing broken bytes time m) }
+            → RecallsMoments self.new (with_moment (settings_of basis.now) timing gap bytes time m) }
     {
-        self.since = since_behind(basis, timing, broken, bytes, time, self.before, self.since);
+        self.since = since_behind(basis, timing, gap, bytes, time, self.before, self.since);
         self.before = Some(time);
     }
 
@@ -265,7 +267,7 @@ impl Moments {
         &mut self,
         basis: &Basis<'_>,
         timing: Timing,
-        broken: bool,
+        gap: bool,
         time: u64,
         frame: &Frame,
         line: u64,
@@ -275,10 +277,11 @@ impl Moments {
         requires near { AreNear self.old }
         ensures near { OnOk result (AreNear self.new) }
         ensures moments { OnOk result ((m : AMoments) → RecallsMoments self.old m → RecallsMoments self.new
-            (with_time (settings_of basis.now) (Some timing) broken (Some time) frame.now line seen.entry.sighting seen.entry.unclear.now seen.entry.ending m)) }
+            (with_time (settings_of basis.now) (Some timing) gap (Some time) frame.now line seen.entry.sighting seen.entry.unclear.now seen.entry.ending m)) }
     {
-        self.take_time(basis, timing, broken, frame.payload.len(), time);
+        self.take_time(basis, timing, gap, frame.payload.len(), time);
         self.end_pauses(basis, timing, seen)?;
+        self.end_deviating(basis, seen.sighting);
         let stream = sighted_stream(basis, timing, frame, seen.sighting);
         self.take_stream(basis, time, line, stream)?;
         self.take_counted(basis, seen.sighting.unit, line);
@@ -289,7 +292,7 @@ impl Moments {
     fn take_at(
         &mut self,
         basis: &Basis<'_>,
-        broken: bool,
+        gap: bool,
         time: Option<u64>,
         frame: &Frame,
         line: u64,
@@ -299,7 +302,7 @@ impl Moments {
         requires near { AreNear self.old }
         ensures near { OnOk result (AreNear self.new) }
         ensures moments { OnOk result ((m : AMoments) → RecallsMoments self.old m → RecallsMoments self.new
-            (with_time (settings_of basis.now) basis.now.plan.now.timing broken time frame.now line seen.entry.sighting seen.entry.unclear.now seen.entry.ending m)) }
+            (with_time (settings_of basis.now) basis.now.plan.now.timing gap time frame.now line seen.entry.sighting seen.entry.unclear.now seen.entry.ending m)) }
     {
         let Some(timing) = basis.plan.timing else {
             return Ok(());
@@ -307,15 +310,15 @@ impl Moments {
         let Some(time) = time else {
             return Ok(());
         };
-        self.take_known(basis, timing, broken, time, frame, line, seen)
+        self.take_known(basis, timing, gap, time, frame, line, seen)
     }
 
-    /// Looks at a frame of this time, just before which the log breaks off and times begin anew, or they don't, and of which
+    /// Looks at a frame of this time, just before which a gap ends and times begin anew, or they don't, and of which
     /// this is seen.
     pub fn look(
         &mut self,
         basis: &Basis<'_>,
-        broken: bool,
+        gap: bool,
         anew: bool,
         time: Option<u64>,
         frame: &Frame,
@@ -327,10 +330,10 @@ impl Moments {
         ensures near { OnOk result (AreNear self.new) }
         ensures moments { OnOk result ((m : AMoments) (noted : List Noted) → RecallsMoments self.old m
             → seen.entry.sighting ≡ sighted_behind nothing_sighted noted → seen.entry.unclear.now ≡ unclear_behind [] noted
-            → RecallsMoments self.new (moments_behind (settings_of basis.now) broken anew time frame.now line noted seen.entry.ending m)) }
+            → RecallsMoments self.new (moments_behind (settings_of basis.now) gap anew time frame.now line noted seen.entry.ending m)) }
     {
-        self.begin(basis, anew, broken)?;
-        self.take_at(basis, broken, time, frame, line, seen)?;
+        self.begin(basis, anew, gap)?;
+        self.take_at(basis, gap, time, frame, line, seen)?;
         Ok(())
     }
 }

@@ -120,7 +120,7 @@ impl Pauses {
 
 // Whose pauses end at a claim from this source, by this unit or by none.
 fn ending_at(known: &Known, unit: Option<usize>, source: u8) -> Ending
-    ensures { result ≡ ending_at (known_by known.now) (record { unit = unit; source = source }) unit }
+    ensures { result ≡ ending_at (known_by known.now) source unit }
 {
     match unit {
         Some(unit) => {

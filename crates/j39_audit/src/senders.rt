@@ -1,12 +1,12 @@
 //! Who sends from an address.
 ghost use Rattle.std.specs.Prelude.{◌≡◌, ◌<◌, IfSome, Some, length};
 ghost use Rattle.j39_audit.specs.Claiming.{first_there, is_another_there, is_claimed_last, is_strange, may_be, sender_at};
-ghost use Rattle.j39_audit.specs.Claiming.{sure_sender};
-ghost use Rattle.j39_audit.specs.inside.Recalling.{IsWithinUnits, known_by, settings_of};
+ghost use Rattle.j39_audit.specs.Claiming.{gives_way, is_lost_to_another, is_name_below, sure_sender};
+ghost use Rattle.j39_audit.specs.inside.Recalling.{IsWithinUnits, claimed_in, known_by, settings_of};
 
 use crate::basis::Basis;
 use crate::known::Known;
-use j39_id::addresses::is_in_pool;
+use j39_id::addresses::{NULL_ADDRESS, is_in_pool};
 
 /// Who sends from an address.
 #[derive(Clone, Copy)]
@@ -113,4 +113,48 @@ pub(crate) fn sender_at(basis: &Basis<'_>, known: &Known, address: u8) -> SureSe
     } else {
         sure_sender(basis, known, address)
     }
+}
+
+// Whether a NAME that claimed an address lies below another one.
+fn is_below(least: Option<u64>, name: u64) -> bool
+    ensures { result ≡ is_name_below least name }
+{
+    match least {
+        Some(least) => least < name,
+        None => false,
+    }
+}
+
+// Whether a unit claimed an address.
+fn has_claimed(basis: &Basis<'_>, known: &Known, unit: usize, address: u8) -> bool
+    requires { unit < length basis.now.plan.now.units.items }
+    ensures { result ≡ claimed_in known.now unit address }
+{
+    if unit < basis.plan.units.len() {
+        known.has_claimed(unit, address)
+    } else {
+        false
+    }
+}
+
+// Whether a NAME below this one of a unit claimed an address that is one of the unit, or that it claimed too.
+fn is_lost(basis: &Basis<'_>, known: &Known, unit: usize, name: u64, address: u8) -> bool
+    requires { unit < length basis.now.plan.now.units.items }
+    ensures { result ≡ is_lost_to_another (settings_of basis.now) (known_by known.now) unit name address }
+{
+    is_below(known.least(address), name)
+        && (basis.is_address(unit, address) || has_claimed(basis, known, unit, address))
+}
+
+/// Whether a unit of this NAME has to give way to others.
+pub(crate) fn gives_way(basis: &Basis<'_>, known: &Known, unit: usize, name: u64) -> bool
+    requires { unit < length basis.now.plan.now.units.items }
+    ensures { result ≡ gives_way (settings_of basis.now) (known_by known.now) unit name }
+{
+    for address in 0..NULL_ADDRESS {
+        if is_lost(basis, known, unit, name, address) {
+            return true;
+        }
+    }
+    false
 }

@@ -1,5 +1,7 @@
 //! What the basis of an audit reports.
-ghost use Rattle.std.specs.Prelude.{◌≡◌, ◌≤◌};
+ghost use Rattle.std.specs.Prelude.{◌≡◌, ◌≤◌, ◌&&◌, not};
+ghost use Rattle.std.specs.FinSet.{contains};
+ghost use Rattle.j39_id.specs.Addresses.{in_pool};
 ghost use Rattle.j39_audit.specs.Claiming.{has_strangers, is_address_of, is_free_for};
 ghost use Rattle.j39_audit.specs.SentMessages.{has_flow_of};
 ghost use Rattle.j39_audit.specs.Settings.{by_load, logger_error, moves, response_of};
@@ -24,6 +26,7 @@ impl<'a> Basis<'a> {
             sent: self.sent,
             part: self.part,
             stamps: self.stamps,
+            quiet: self.quiet,
             responses: self.responses,
             bound: Bound::Load,
         }
@@ -74,6 +77,16 @@ impl<'a> Basis<'a> {
         ensures { result ≡ has_strangers (settings_of self.now) }
     {
         self.plan.strangers > 0
+    }
+
+    /// Whether an address is one of 128 to 247 that isn't kept free.
+    pub fn is_not_kept(&self, address: u8) -> bool
+        ensures { result ≡ (in_pool address && not (contains (settings_of self.now).plan.keep_free address)) }
+    {
+        let Some(free) = Address::new(address) else {
+            return false;
+        };
+        is_in_pool(address) && !self.plan.keep_free.has(free)
     }
 
     // Whether a unit that moves may go to an address.

@@ -28,23 +28,26 @@ const NEVER: Occurrences = Occurrences {
     worst_at: 0,
 };
 
-/// Of which flow and of which request a frame is seen, and for which unit it counts, by their places from 0.
+/// Of which flow and of which request a frame is seen, for which unit it counts, and from which of its groups a message
+/// deviates, by their places from 0.
 #[derive(Clone, Copy)]
 pub struct Sighting {
     pub flow: Option<usize>,
     pub request: Option<usize>,
     pub unit: Option<usize>,
+    pub deviating: Option<usize>,
 }
 
 const NOTHING: Sighting = Sighting {
     flow: None,
     request: None,
     unit: None,
+    deviating: None,
 };
 
 // With a mark more.
 fn sighted(old: Sighting, mark: Mark) -> Sighting
-    ensures { result ≡ sighted_as mark.word mark.subject old }
+    ensures { result ≡ sighted_as mark.word mark.subject mark.group old }
 {
     match mark.word {
         Word::Seen => Sighting {
@@ -57,6 +60,10 @@ fn sighted(old: Sighting, mark: Mark) -> Sighting
         },
         Word::Counted => Sighting {
             unit: Some(mark.subject),
+            ..old
+        },
+        Word::Layout | Word::NoFlow | Word::Priority => Sighting {
+            deviating: Some(mark.group),
             ..old
         },
         _ => old,

@@ -1,7 +1,7 @@
 -- What is noted at a frame is what the frame is marked with, and each mark that accuses is noted once at most.
-use Rattle.std.proofs.Common.{◌≡◌, ◌⊎◌, ℕ, ◌==◌, ◌&&◌, ◌++◌, ◌∷◌, [], List, Bool, true, false, not, cond}
+use Rattle.std.proofs.Common.{◌≡◌, ◌⊎◌, ℕ, ◌==◌, ◌&&◌, ◌||◌, ◌++◌, ◌∷◌, [], List, Bool, true, false, not, cond}
 use Rattle.std.proofs.Common.{inl, inr, refl, sym, ap, ◌∙◌, subst, eqb-true, arith, Option, Some, None}
-use Rattle.std.proofs.lemmas.Bool.{and_from, and_parts, cases_Bool, cond-false, cond-true, eq-eqb, eqb-false, false_from_ne_true, le-ltb, ltb-false, ne_eqb, not-true, not_from_false, true≢false}
+use Rattle.std.proofs.lemmas.Bool.{and_from, and_parts, cases_Bool, cond-false, cond-true, eq-eqb, eqb-false, false_from_ne_true, le-ltb, ltb-false, ne_eqb, not-true, not_from_false, or_parts, true≢false}
 use Rattle.j39_id.specs.Addresses.{is_address, null_address}
 use Rattle.j39_id.specs.FrameMeaning.{name_in}
 use Rattle.j39_id.specs.declared.frame.Frame.{Frame}
@@ -9,7 +9,7 @@ use Rattle.j39_follow.specs.Who.{unit_of_name}
 use Rattle.j39_tp.specs.declared.packet.Packet.{Packet}
 use Rattle.j39_audit.specs.Claiming.{HeardClaims, Knowledge, has_strangers, is_address_of, knowledge, sender_at}
 use Rattle.j39_audit.specs.Counting.{Noted}
-use Rattle.j39_audit.specs.Looking.{claim_noted, claim_place, counted, frame_noted, is_above_unplanned, is_claim, is_claiming, is_urgent}
+use Rattle.j39_audit.specs.Looking.{claim_noted, claim_place, counted, frame_noted, has_to_say_cannot, is_above_unplanned, is_claim, is_claiming, is_urgent, may_claim, may_move_to}
 use Rattle.j39_audit.specs.Looking.{mark_noted, message_noted, message_sent, noted_if, noted_with, request_noted, sent_noted}
 use Rattle.j39_audit.specs.SentMessages.{SentMessage, deviation, flows_noted, noted_at}
 use Rattle.j39_audit.specs.Settings.{Settings}
@@ -68,35 +68,38 @@ module _ (s : Settings) (claims : HeardClaims) (f : Frame) (packet : Option Pack
 
   -- ---- a note has a meaning
 
-  placed : (u : ℕ) → IsClaimOf s f (Some u) → (n : Noted) → In n (claim_place s f line u) → Means n
+  placed : (u : ℕ) → IsClaimOf s f (Some u) → (n : Noted) → In n (claim_place s k f line u) → Means n
   placed u of n inside =
-      elim (if_cases n (f.ident.sa == null_address) (noted_at line Cannot u 0 ∷ [])
-      (noted_if (not (is_address_of s u f.ident.sa && is_claiming s u)) (noted_with line Address u f.ident.sa)) inside) [
-        | inl (null, is) ↦ elim is [
-          | inl e ↦ subst Means e (λ _. (refl, (of, eqb-true f.ident.sa null_address null, refl)))
-          | inr never ↦ absurd never
-        ]
+      elim (if_cases n (f.ident.sa == null_address) (noted_if (not (has_to_say_cannot s k (name_in f) u)) (noted_at line Cannot u 0))
+      (noted_if (not (may_claim s k (name_in f) u f.ident.sa)) (noted_with line Address u f.ident.sa)) inside) [
+        | inl (null, is) ↦
+            let (test, e) = in_if n (noted_at line Cannot u 0) (not (has_to_say_cannot s k (name_in f) u)) is in
+            subst Means e (λ _. (
+              refl,
+              (of, eqb-true f.ident.sa null_address null, (λ has_to. true≢false (sym has_to ∙ not-true _ test)), refl),
+            ))
         | inr (some, is) ↦
-            let (test, e) = in_if n (noted_with line Address u f.ident.sa) (not (is_address_of s u f.ident.sa && is_claiming s u)) is in
+            let (test, e) = in_if n (noted_with line Address u f.ident.sa) (not (may_claim s k (name_in f) u f.ident.sa)) is in
+            let parts = or_parts (is_address_of s u f.ident.sa && is_claiming s u) (may_move_to s k (name_in f) u f.ident.sa) (not-true _ test) in
             subst Means e (λ _. (
               refl,
               (
                 of,
                 eqb-false f.ident.sa null_address some,
-                (λ right.
-                    true≢false (sym (and_from (is_address_of s u f.ident.sa) (is_claiming s u) right.own right.claims) ∙ not-true _ test)),
+                (λ right. true≢false (sym (and_from (is_address_of s u f.ident.sa) (is_claiming s u) right.own right.claims) ∙ parts.0)),
+                (λ moves. true≢false (sym moves ∙ parts.1)),
                 refl,
               ),
             ))
       ]
 
-  claimed : is_claim f ≡ true → (o : Option ℕ) → unit_of_name s.plan (name_in f) ≡ o → (n : Noted) → In n (claim_noted s f line o) → Means n
+  claimed : is_claim f ≡ true → (o : Option ℕ) → unit_of_name s.plan (name_in f) ≡ o → (n : Noted) → In n (claim_noted s k f line o) → Means n
   claimed claim None is n inside =
       let (test, e) = in_if n (noted_with line Stranger f.ident.sa (name_in f)) (not (has_strangers s)) inside in
       subst Means e (λ _. (refl, (record { claim = claim; unit_is = is }, no_strangers s test, refl, refl)))
   claimed claim (Some u) is n inside =
       let of : IsClaimOf s f (Some u) = record { claim = claim; unit_is = is } in
-      elim (in_cases n (claim_place s f line u) (noted_if (is_above_unplanned s f) (noted_at line Urgent u 0)) inside) [
+      elim (in_cases n (claim_place s k f line u) (noted_if (is_above_unplanned s f) (noted_at line Urgent u 0)) inside) [
         | inl there ↦ placed u of n there
         | inr there ↦
             let (test, e) = in_if n (noted_at line Urgent u 0) (is_above_unplanned s f) there in
@@ -158,7 +161,7 @@ module _ (s : Settings) (claims : HeardClaims) (f : Frame) (packet : Option Pack
 
   pub noted_means : (n : Noted) → In n (frame_noted s claims f packet line) → Means n
   noted_means n inside =
-      elim (if_cases n (is_claim f) (claim_noted s f line (unit_of_name s.plan (name_in f)))
+      elim (if_cases n (is_claim f) (claim_noted s k f line (unit_of_name s.plan (name_in f)))
       (cond (is_address f.ident.sa) (sent_noted s k f packet line (sender_at s k f.ident.sa)) []) inside) [
         | inl (claim, is) ↦ claimed claim (unit_of_name s.plan (name_in f)) refl n is
         | inr (other, is) ↦ elim (if_cases n (is_address f.ident.sa) (sent_noted s k f packet line (sender_at s k f.ident.sa)) [] is) [
@@ -172,8 +175,8 @@ module _ (s : Settings) (claims : HeardClaims) (f : Frame) (packet : Option Pack
   abbrev IsNotedAs : Word → ℕ → ℕ → Type 0
   IsNotedAs w u g = (n : Noted) × In n (frame_noted s claims f packet line) × (n.mark ≡ record { word = w; subject = u; group = g })
 
-  claims_as : (o : Option ℕ) → IsClaimOf s f o → frame_noted s claims f packet line ≡ claim_noted s f line o
-  claims_as o of = cond-true (is_claim f) _ _ of.claim ∙ ap (claim_noted s f line) of.unit_is
+  claims_as : (o : Option ℕ) → IsClaimOf s f o → frame_noted s claims f packet line ≡ claim_noted s k f line o
+  claims_as o of = cond-true (is_claim f) _ _ of.claim ∙ ap (claim_noted s k f line) of.unit_is
 
   sent_so : (sure : SureSender) → IsSentFrom s claims f sure → frame_noted s claims f packet line ≡ sent_noted s k f packet line sure
   sent_so sure sent =
@@ -207,20 +210,22 @@ module _ (s : Settings) (claims : HeardClaims) (f : Frame) (packet : Option Pack
         subst (In _) (sym (sent_so Nobody sent)) (inl refl),
         ap (λ (a : ℕ). record { word = NobodyThere; subject = a; group = 0 }) at,
       )
-  marked_noted Address u g (of, some, wrong, grouped) =
-      let test : not (is_address_of s u f.ident.sa && is_claiming s u) ≡ true =
-      not_from_false _ (false_from_ne_true _ (λ both.
+  marked_noted Address u g (of, some, wrong, stays, grouped) =
+      let not_own = false_from_ne_true (is_address_of s u f.ident.sa && is_claiming s u) (λ both.
       let parts = and_parts (is_address_of s u f.ident.sa) (is_claiming s u) both in
-      wrong (record { claims = parts.1; own = parts.0 }))) in
+      wrong (record { claims = parts.1; own = parts.0 })) in
+      let test : not (may_claim s k (name_in f) u f.ident.sa) ≡ true =
+      not_from_false _ (ap (λ (b : Bool). b || may_move_to s k (name_in f) u f.ident.sa) not_own ∙ false_from_ne_true _ stays) in
       let n : Noted = noted_with line Address u f.ident.sa in
-      let place : In n (claim_place s f line u) =
+      let place : In n (claim_place s k f line u) =
       subst (In n) (sym (cond-false (f.ident.sa == null_address) _ _ (ne_eqb f.ident.sa null_address some))) (if_in n _ test) in
-      marks_as Address u g grouped (n, subst (In n) (sym (claims_as (Some u) of)) (in_left n (claim_place s f line u) _ place), refl)
-  marked_noted Cannot u g (of, null, grouped) =
+      marks_as Address u g grouped (n, subst (In n) (sym (claims_as (Some u) of)) (in_left n (claim_place s k f line u) _ place), refl)
+  marked_noted Cannot u g (of, null, needless, grouped) =
       let n : Noted = noted_at line Cannot u 0 in
-      let place : In n (claim_place s f line u) =
-      subst (In n) (sym (cond-true (f.ident.sa == null_address) _ _ (eq-eqb f.ident.sa null_address null))) (inl refl) in
-      marks_as Cannot u g grouped (n, subst (In n) (sym (claims_as (Some u) of)) (in_left n (claim_place s f line u) _ place), refl)
+      let test : not (has_to_say_cannot s k (name_in f) u) ≡ true = not_from_false _ (false_from_ne_true _ needless) in
+      let place : In n (claim_place s k f line u) =
+      subst (In n) (sym (cond-true (f.ident.sa == null_address) _ _ (eq-eqb f.ident.sa null_address null))) (if_in n _ test) in
+      marks_as Cannot u g grouped (n, subst (In n) (sym (claims_as (Some u) of)) (in_left n (claim_place s k f line u) _ place), refl)
   marked_noted Layout u g differs = differs_noted Layout u g differs
   marked_noted NoFlow u g differs = differs_noted NoFlow u g differs
   marked_noted Priority u g differs = differs_noted Priority u g differs
@@ -228,7 +233,7 @@ module _ (s : Settings) (claims : HeardClaims) (f : Frame) (packet : Option Pack
       let n : Noted = noted_at line Urgent u 0 in
       marks_as Urgent u g grouped (
         n,
-        subst (In n) (sym (claims_as (Some u) of)) (in_right n (claim_place s f line u) (noted_if (is_above_unplanned s f) n) (if_in n _ above)),
+        subst (In n) (sym (claims_as (Some u) of)) (in_right n (claim_place s k f line u) (noted_if (is_above_unplanned s f) n) (if_in n _ above)),
         refl,
       )
   marked_noted Urgent u g (inr (sent, urgent), grouped) =
@@ -268,19 +273,19 @@ module _ (s : Settings) (claims : HeardClaims) (f : Frame) (packet : Option Pack
           (no_hits m is_urgent_word other (noted_if test (noted_at line Urgent u 0)) (words_if is_urgent_word (noted_at line Urgent u 0) test refl)) one
     ]
 
-    place_once : (u : ℕ) → AtMostOne (hits m (claim_place s f line u)) × HaveWords is_another (claim_place s f line u)
+    place_once : (u : ℕ) → AtMostOne (hits m (claim_place s k f line u)) × HaveWords is_another (claim_place s k f line u)
     place_once u =
-        elim (f.ident.sa == null_address) as (λ b. AtMostOne (hits m (cond b (noted_at line Cannot u 0 ∷ [])
-        (noted_if (not (is_address_of s u f.ident.sa && is_claiming s u)) (noted_with line Address u f.ident.sa))))
-        × HaveWords is_another (cond b (noted_at line Cannot u 0 ∷ [])
-        (noted_if (not (is_address_of s u f.ident.sa && is_claiming s u)) (noted_with line Address u f.ident.sa)))) [
-          | true ↦ (one_of_one m (noted_at line Cannot u 0), (refl, tt))
+        elim (f.ident.sa == null_address) as (λ b. AtMostOne (hits m (cond b (noted_if (not (has_to_say_cannot s k (name_in f) u)) (noted_at line Cannot u 0))
+        (noted_if (not (may_claim s k (name_in f) u f.ident.sa)) (noted_with line Address u f.ident.sa))))
+        × HaveWords is_another (cond b (noted_if (not (has_to_say_cannot s k (name_in f) u)) (noted_at line Cannot u 0))
+        (noted_if (not (may_claim s k (name_in f) u f.ident.sa)) (noted_with line Address u f.ident.sa)))) [
+          | true ↦ (one_if m (noted_at line Cannot u 0) _, words_if is_another (noted_at line Cannot u 0) _ refl)
           | false ↦ (one_if m (noted_with line Address u f.ident.sa) _, words_if is_another (noted_with line Address u f.ident.sa) _ refl)
         ]
 
-    claim_once : (o : Option ℕ) → AtMostOne (hits m (claim_noted s f line o))
+    claim_once : (o : Option ℕ) → AtMostOne (hits m (claim_noted s k f line o))
     claim_once None = one_if m (noted_with line Stranger f.ident.sa (name_in f)) (not (has_strangers s))
-    claim_once (Some u) = (let place = place_once u in urgent_last (claim_place s f line u) (is_above_unplanned s f) u place.1 place.0)
+    claim_once (Some u) = (let place = place_once u in urgent_last (claim_place s k f line u) (is_above_unplanned s f) u place.1 place.0)
 
     mark_once : (message : SentMessage) (o : Option Mark) → IsDeviation message o
         → AtMostOne (hits m (mark_noted line o)) × HaveWords is_another (mark_noted line o)
@@ -317,7 +322,7 @@ module _ (s : Settings) (claims : HeardClaims) (f : Frame) (packet : Option Pack
 
     pub noted_once : AtMostOne (hits m (frame_noted s claims f packet line))
     noted_once =
-        elim (is_claim f) as (λ b. AtMostOne (hits m (cond b (claim_noted s f line (unit_of_name s.plan (name_in f)))
+        elim (is_claim f) as (λ b. AtMostOne (hits m (cond b (claim_noted s k f line (unit_of_name s.plan (name_in f)))
         (cond (is_address f.ident.sa) (sent_noted s k f packet line (sender_at s k f.ident.sa)) [])))) [
           | true ↦ claim_once (unit_of_name s.plan (name_in f))
           | false ↦ elim (is_address f.ident.sa) as (λ b. AtMostOne (hits m (cond b (sent_noted s k f packet line (sender_at s k f.ident.sa)) []))) [

@@ -36,7 +36,7 @@ use Rattle.j39_audit_laws.specs.FoundLines.{IsFrameAt}
 use Rattle.j39_audit_laws.specs.KeptParts.{CarriesPlanned, IsGroupAnnounced, IsGroupMessage, KeepersAreNotAccused, KeptPlansAreNotAccused, KeepsBesidePlan, KeepsOwnFrames, ShowsFrames, WireFrames, OfFlowsGroup}
 use Rattle.j39_audit_laws.specs.OwnPart.{ClaimsAddresses, GoesAsPlanned, IsByThePlan, IsItsAddress, IsItsNumber, IsOfFlowPlanned, LooksAsPlanned, SentBy}
 use Rattle.j39_audit_laws.proofs.PlanTiming.{planned_timing}
-use Rattle.j39_audit_laws.proofs.Own.{can_claim, claim_number, claims_its_own, flows_are_planned, layouts_are_planned, priorities_are_planned, waits_for_planned}
+use Rattle.j39_audit_laws.proofs.Own.{can_claim, claim_number, claims_its_own, flows_are_planned, layouts_are_planned, priorities_are_planned, waits_for_planned, who_always_can, who_claims_its_own}
 use Rattle.j39_audit_laws.proofs.RunMessages.{other_none, priority_as, sent_message}
 
 -- ---- numbers and addresses
@@ -389,9 +389,10 @@ keepers s log timing bus wire place planned sent held u moving own timed shows i
     let looks : LooksAsPlanned s log sent_by u = λ number claims f packet at by m message its_number.
     (fine number claims f packet at by).looks packet m at.packet_is message its_number (knowledge s claims) in
     record {
-      address = claims_its_own s log sent_by u moving its (λ number claims f packet at by claim some.
-          (let is = (fine number claims f packet at by).claims claim in (is.1, is.2)));
-      cannot = can_claim s log sent_by u moving its (λ number claims f packet at by claim. ((fine number claims f packet at by).claims claim).0);
+      address = claims_its_own s log sent_by u moving its (who_claims_its_own s log sent_by u (λ number claims f packet at by claim some.
+          (let is = (fine number claims f packet at by).claims claim in (is.1, is.2))));
+      cannot = can_claim s log sent_by u moving its
+          (who_always_can s log sent_by u (λ number claims f packet at by claim. ((fine number claims f packet at by).claims claim).0));
       layout = layouts_are_planned s log sent_by u moving its looks;
       no_flow = flows_are_planned s log sent_by u moving its looks;
       priority = priorities_are_planned s log sent_by u moving its looks;

@@ -129,8 +129,8 @@ module _ (s : Settings) (claims : HeardClaims) (f : Frame) (packet : Option Pack
   pub accused_listed : (w : Word) (u g : ℕ) → IsAccusedAs s claims f packet w u g → (u < subjects s w) × (g < groups_named s w)
   accused_listed Stranger u g (of, none, at, grouped) = (source_inside u at, first_of_one g grouped)
   accused_listed NobodyThere u g (sent, at, grouped) = (source_inside u at, first_of_one g grouped)
-  accused_listed Address u g (of, some, wrong, grouped) = (named_inside s.plan (name_in f) u of.unit_is, first_of_one g grouped)
-  accused_listed Cannot u g (of, null, grouped) = (named_inside s.plan (name_in f) u of.unit_is, first_of_one g grouped)
+  accused_listed Address u g (of, some, wrong, stays, grouped) = (named_inside s.plan (name_in f) u of.unit_is, first_of_one g grouped)
+  accused_listed Cannot u g (of, null, needless, grouped) = (named_inside s.plan (name_in f) u of.unit_is, first_of_one g grouped)
   accused_listed Layout u g differs = differs_inside Layout u g differs
   accused_listed NoFlow u g differs = differs_inside NoFlow u g differs
   accused_listed Priority u g differs = differs_inside Priority u g differs

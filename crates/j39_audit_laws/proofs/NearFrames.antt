@@ -12,13 +12,12 @@ use Rattle.j39_id.specs.declared.frame.Frame.{Frame}
 use Rattle.j39_network.specs.declared.plan.group_plan.GroupPlan.{GroupPlan}
 use Rattle.j39_network.specs.declared.plan.pace.Pace.{Pace}
 use Rattle.j39_network.specs.declared.plan.timing.Timing.{Timing}
-use Rattle.j39_audit.specs.AuditText.{claims_before, noted_newly}
-use Rattle.j39_audit.specs.Breaks.{breaks}
+use Rattle.j39_audit.specs.AuditText.{claims_before, gap_before, noted_newly}
 use Rattle.j39_audit.specs.Claiming.{knowledge}
 use Rattle.j39_audit.specs.Counting.{Key, Noted, is_same_key, key_of}
 use Rattle.j39_audit.specs.Looking.{is_single}
 use Rattle.j39_audit.specs.MessageStreams.{asked_stream, flow_pace, flow_stream, group_in_flow, is_in_stream, nothing_sighted, paced_stream, request_period, request_priority, sighted_behind, sighted_stream, stream_mark, stream_pause}
-use Rattle.j39_audit.specs.Moments.{Moments, all_pauses_ended, begins_anew, begun_anew, ends_with, listed_pauses_ended, moment_window, moments_behind, near_noted, pause_ended, pauses_dropped, pauses_ended, silence_behind, silent_noted, since_behind, with_counted, with_ending, with_frame_of, with_message, with_moment, with_pause, with_stream, with_time}
+use Rattle.j39_audit.specs.Moments.{Moments, all_pauses_ended, begins_anew, begun_anew, ends_with, listed_pauses_ended, moment_window, moments_behind, near_noted, pause_ended, pauses_dropped, pauses_ended, silence_behind, silent_noted, since_behind, with_counted, with_deviating, with_ending, with_frame_of, with_message, with_moment, with_pause, with_stream, with_time}
 use Rattle.j39_audit.specs.Near.{candidate, earliest_next, excess}
 use Rattle.j39_audit.specs.Pauses.{ending_of, unclear_behind}
 use Rattle.j39_audit.specs.Settings.{Settings}
@@ -36,9 +35,9 @@ use Rattle.j39_audit.proofs.Counted.{same_keys}
 use Rattle.j39_audit_laws.specs.PauseLines.{FrameLine, time_there}
 use Rattle.j39_audit_laws.proofs.Hits.{HaveWords, hits, hits_both, no_hits, same_mark}
 
--- a frame of this line: whether the log breaks off just before it and times begin anew, what is noted of it, and which pauses end at it
+-- a frame of this line: whether a gap ends just before it and times begin anew, what is noted of it, and which pauses end at it
 pub record FrameThere : Type 0 where
-  pub broken : Bool
+  pub gap : Bool
   pub anew : Bool
   pub f : Frame
   pub line : ℕ
@@ -48,7 +47,7 @@ pub record FrameThere : Type 0 where
 -- as a log has it
 abbrev pub frame_there : {s : Settings} {log : List Line} {number : ℕ} → FrameLine s log number → FrameThere
 frame_there {s} l = record {
-  broken = breaks s.stamps l.at.past.newest (time_there l);
+  gap = gap_before s l.at.past (time_there l);
   anew = begins_anew s.stamps l.at.past.newest (time_there l);
   f = l.f;
   line = l.at.past.number;
@@ -139,6 +138,9 @@ module _ (b : Settings) (t : Timing) (timed : b.plan.timing ≡ Some t) (n : ℕ
   ending_near (OfUnit u) m =
       let ended = pauses_near (Some u) (length b.plan.flows.items) m in
       record { earliest = ended.earliest; noted = ended.noted; since = ended.since; before = ended.before }
+
+  deviating_near : (group unit : Option ℕ) (a m : Moments) → IsAsNear a m → IsAsNear a (with_deviating b group unit m)
+  deviating_near group unit a m as_near = record { earliest = as_near.earliest; noted = as_near.noted; since = as_near.since; before = as_near.before }
 
   counted_near : (unit : Option ℕ) (line : ℕ) (m : Moments) → IsAsNear m (with_counted b unit line m)
   counted_near None line m = near_itself m
@@ -259,8 +261,8 @@ module _ (b : Settings) (t : Timing) (timed : b.plan.timing ≡ Some t) (n : ℕ
   -- ---- a frame
 
   module _ (there : FrameThere) where
-    abbrev broken : Bool
-    broken = there.broken
+    abbrev gap : Bool
+    gap = there.gap
 
     abbrev anew : Bool
     anew = there.anew
@@ -287,14 +289,17 @@ module _ (b : Settings) (t : Timing) (timed : b.plan.timing ≡ Some t) (n : ℕ
     abbrev pub begun : Moments → Option ℕ
     begun m = cond anew None (m.earliest key)
 
-    begins : (m : Moments) → ((begun_anew b anew broken m).earliest key ≡ begun m) × (hits mark (begun_anew b anew broken m).untimely ≡ hits mark m.untimely)
+    begins : (m : Moments) → ((begun_anew b anew gap m).earliest key ≡ begun m) × (hits mark (begun_anew b anew gap m).untimely ≡ hits mark m.untimely)
     begins m = elim anew as (λ a. ((cond a (record (all_pauses_ended b m) { before = None; since = None; earliest = λ key. None })
-        (cond broken (pauses_dropped m) m)).earliest key ≡ cond a None (m.earliest key))
+        (cond gap (all_pauses_ended b m) m)).earliest key ≡ cond a None (m.earliest key))
         × (hits mark (cond a (record (all_pauses_ended b m) { before = None; since = None; earliest = λ key. None })
-        (cond broken (pauses_dropped m) m)).untimely ≡ hits mark m.untimely)) [
+        (cond gap (all_pauses_ended b m) m)).untimely ≡ hits mark m.untimely)) [
           | true ↦ (refl, (all_near m).noted)
-          | false ↦ elim broken as (λ c. ((cond c (pauses_dropped m) m).earliest key ≡ m.earliest key)
-              × (hits mark (cond c (pauses_dropped m) m).untimely ≡ hits mark m.untimely)) [ true ↦ (refl, refl) | false ↦ (refl, refl) ]
+          | false ↦ elim gap as (λ c. ((cond c (all_pauses_ended b m) m).earliest key ≡ m.earliest key)
+              × (hits mark (cond c (all_pauses_ended b m) m).untimely ≡ hits mark m.untimely)) [
+                | true ↦ ((all_near m).earliest, (all_near m).noted)
+                | false ↦ (refl, refl)
+              ]
         ]
 
     -- a frame of this time is a message of the flow, by its bounds, or it changes nothing of it
@@ -313,21 +318,22 @@ module _ (b : Settings) (t : Timing) (timed : b.plan.timing ≡ Some t) (n : ℕ
     -- and since when it holds what comes
     abbrev pub HoldsSince : ℕ → Moments → Moments → Type 0
     HoldsSince time m new =
-        (new.since ≡ since_behind b t broken (length f.payload.items) time (begun_anew b anew broken m).before (begun_anew b anew broken m).since)
+        (new.since ≡ since_behind b t gap (length f.payload.items) time (begun_anew b anew gap m).before (begun_anew b anew gap m).since)
         × (new.before ≡ Some time)
 
-    pub timed_frame : (time : ℕ) (m : Moments) → HoldsSince time m (moments_behind b broken anew (Some time) f line notes ending m)
-        × (IsOtherFrame m (moments_behind b broken anew (Some time) f line notes ending m)
-        ⊎ IsNearFrame time m (moments_behind b broken anew (Some time) f line notes ending m))
+    pub timed_frame : (time : ℕ) (m : Moments) → HoldsSince time m (moments_behind b gap anew (Some time) f line notes ending m)
+        × (IsOtherFrame m (moments_behind b gap anew (Some time) f line notes ending m)
+        ⊎ IsNearFrame time m (moments_behind b gap anew (Some time) f line notes ending m))
     unfolding moments_behind
     timed_frame time m =
-        let start : Moments = begun_anew b anew broken m in
-        let first : Moments = with_moment b t broken (length f.payload.items) time start in
+        let start : Moments = begun_anew b anew gap m in
+        let first : Moments = with_moment b t gap (length f.payload.items) time start in
         let second : Moments = with_ending b t ending first in
-        let third : Moments = listed_pauses_ended b t unclear (length unclear) second in
+        let third : Moments = with_deviating b sighting.deviating sighting.unit (listed_pauses_ended b t unclear (length unclear) second) in
         let fourth : Moments = with_stream b time line (sighted_stream b t f sighting.flow sighting.request) third in
         let fifth : Moments = with_counted b sighting.unit line fourth in
-        let before : IsAsNear first third = near_more first second third (ending_near ending first) (listed_near unclear (length unclear) second) in
+        let before : IsAsNear first third = deviating_near sighting.deviating sighting.unit first (listed_pauses_ended b t unclear (length unclear) second)
+        (near_more first second (listed_pauses_ended b t unclear (length unclear) second) (ending_near ending first) (listed_near unclear (length unclear) second)) in
         let behind : IsAsNear fourth fifth = counted_near sighting.unit line fourth in
         let was = begins m in
         let from : third.earliest key ≡ begun m = before.earliest ∙ was.0 in
@@ -360,52 +366,52 @@ module _ (b : Settings) (t : Timing) (timed : b.plan.timing ≡ Some t) (n : ℕ
                 }),
               )
         ] in
-        subst (λ (o : Option Timing). HoldsSince time m (with_time b o broken (Some time) f line sighting unclear ending start)
-        × (IsOtherFrame m (with_time b o broken (Some time) f line sighting unclear ending start)
-        ⊎ IsNearFrame time m (with_time b o broken (Some time) f line sighting unclear ending start))) (sym timed) goes
+        subst (λ (o : Option Timing). HoldsSince time m (with_time b o gap (Some time) f line sighting unclear ending start)
+        × (IsOtherFrame m (with_time b o gap (Some time) f line sighting unclear ending start)
+        ⊎ IsNearFrame time m (with_time b o gap (Some time) f line sighting unclear ending start))) (sym timed) goes
 
     -- and so does one without a time
-    pub timeless_frame : (m : Moments) → IsOtherFrame m (moments_behind b broken anew None f line notes ending m)
+    pub timeless_frame : (m : Moments) → IsOtherFrame m (moments_behind b gap anew None f line notes ending m)
     unfolding moments_behind
     timeless_frame m =
         let was = begins m in
-        subst (λ (o : Option Timing). IsOtherFrame m (with_time b o broken None f line sighting unclear ending (begun_anew b anew broken m))) (sym timed)
+        subst (λ (o : Option Timing). IsOtherFrame m (with_time b o gap None f line sighting unclear ending (begun_anew b anew gap m))) (sym timed)
         (record { earliest = was.0; noted = was.1 })
 
     -- where times begin anew, nothing is known any more
-    pub timeless_marks : (m : Moments) → anew ≡ true → ((moments_behind b broken anew None f line notes ending m).before ≡ None)
-        × ((moments_behind b broken anew None f line notes ending m).since ≡ None)
+    pub timeless_marks : (m : Moments) → anew ≡ true → ((moments_behind b gap anew None f line notes ending m).before ≡ None)
+        × ((moments_behind b gap anew None f line notes ending m).since ≡ None)
     unfolding moments_behind
     timeless_marks m is =
-        let start : Moments = begun_anew b anew broken m in
+        let start : Moments = begun_anew b anew gap m in
         let none : (start.before ≡ None) × (start.since ≡ None) =
         elim anew as (λ a. a ≡ true → ((cond a (record (all_pauses_ended b m) { before = None; since = None; earliest = λ key. None })
-        (cond broken (pauses_dropped m) m)).before ≡ None) × ((cond a (record (all_pauses_ended b m) { before = None; since = None; earliest = λ key. None })
-        (cond broken (pauses_dropped m) m)).since ≡ None)) [
+        (cond gap (all_pauses_ended b m) m)).before ≡ None) × ((cond a (record (all_pauses_ended b m) { before = None; since = None; earliest = λ key. None })
+        (cond gap (all_pauses_ended b m) m)).since ≡ None)) [
           | true ↦ λ _. (refl, refl)
           | false ↦ λ e. absurd (true≢false (sym e))
         ] is in
-        subst (λ (o : Option Timing). ((with_time b o broken None f line sighting unclear ending start).before ≡ None)
-        × ((with_time b o broken None f line sighting unclear ending start).since ≡ None)) (sym timed) none
+        subst (λ (o : Option Timing). ((with_time b o gap None f line sighting unclear ending start).before ≡ None)
+        × ((with_time b o gap None f line sighting unclear ending start).since ≡ None)) (sym timed) none
 
     -- and else it is what it was
-    pub goes_on : (m : Moments) → anew ≡ false → ((begun_anew b anew broken m).before ≡ m.before) × ((begun_anew b anew broken m).since ≡ m.since)
+    pub goes_on : (m : Moments) → anew ≡ false → ((begun_anew b anew gap m).before ≡ m.before) × ((begun_anew b anew gap m).since ≡ m.since)
     goes_on m is =
         elim anew as (λ a. a ≡ false → ((cond a (record (all_pauses_ended b m) { before = None; since = None; earliest = λ key. None })
-        (cond broken (pauses_dropped m) m)).before ≡ m.before) × ((cond a (record (all_pauses_ended b m) { before = None; since = None; earliest = λ key. None })
-        (cond broken (pauses_dropped m) m)).since ≡ m.since)) [
+        (cond gap (all_pauses_ended b m) m)).before ≡ m.before) × ((cond a (record (all_pauses_ended b m) { before = None; since = None; earliest = λ key. None })
+        (cond gap (all_pauses_ended b m) m)).since ≡ m.since)) [
           | true ↦ λ e. absurd (true≢false e)
-          | false ↦ λ _. elim broken as (λ c. ((cond c (pauses_dropped m) m).before ≡ m.before) × ((cond c (pauses_dropped m) m).since ≡ m.since)) [
-            | true ↦ (refl, refl)
+          | false ↦ λ _. elim gap as (λ c. ((cond c (all_pauses_ended b m) m).before ≡ m.before) × ((cond c (all_pauses_ended b m) m).since ≡ m.since)) [
+            | true ↦ ((all_near m).before, (all_near m).since)
             | false ↦ (refl, refl)
           ]
         ] is
 
-    pub begun_marks : (m : Moments) → anew ≡ true → ((begun_anew b anew broken m).before ≡ None) × ((begun_anew b anew broken m).since ≡ None)
+    pub begun_marks : (m : Moments) → anew ≡ true → ((begun_anew b anew gap m).before ≡ None) × ((begun_anew b anew gap m).since ≡ None)
     begun_marks m is =
         elim anew as (λ a. a ≡ true → ((cond a (record (all_pauses_ended b m) { before = None; since = None; earliest = λ key. None })
-        (cond broken (pauses_dropped m) m)).before ≡ None) × ((cond a (record (all_pauses_ended b m) { before = None; since = None; earliest = λ key. None })
-        (cond broken (pauses_dropped m) m)).since ≡ None)) [
+        (cond gap (all_pauses_ended b m) m)).before ≡ None) × ((cond a (record (all_pauses_ended b m) { before = None; since = None; earliest = λ key. None })
+        (cond gap (all_pauses_ended b m) m)).since ≡ None)) [
           | true ↦ λ _. (refl, refl)
           | false ↦ λ e. absurd (true≢false (sym e))
         ] is

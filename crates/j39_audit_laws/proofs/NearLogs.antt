@@ -132,7 +132,7 @@ module _ (s : Settings) (log : List Line) (t : Timing) (timed : s.plan.timing �
     there = frames.frame_there l
 
     abbrev with_frame : Option ℕ → Moments
-    with_frame time = moments_behind b there.broken there.anew time one.f one.at.past.number there.notes there.ending past.by_load
+    with_frame time = moments_behind b there.gap there.anew time one.f one.at.past.number there.notes there.ending past.by_load
 
     by_other_frame : (new : Moments) → frames.IsOtherFrame b t timed n there past.by_load new
         → IsKept (number + 1) new

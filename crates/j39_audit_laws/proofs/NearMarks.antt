@@ -15,7 +15,7 @@ use Rattle.j39_network.specs.declared.plan.pace.Pace.{Pace}
 use Rattle.j39_network.specs.declared.plan.timing.Timing.{Timing}
 use Rattle.j39_timing.specs.Messages.{frame_end}
 use Rattle.j39_timing.specs.TimedFrames.{Schedule}
-use Rattle.j39_load.specs.BusTimes.{timing_of, with_claims}
+use Rattle.j39_load.specs.BusTimes.{with_claims}
 use Rattle.j39_load.specs.Clocks.{bit_time}
 use Rattle.j39_audit.specs.AuditText.{AuditPast, AuditsLines, look_at, log_ended, mark_at, broadcasts_there, counted_for, moments_with_frame, nothing_read}
 use Rattle.j39_audit.specs.Counting.{Noted, key_of, reported_at, occurrences_of}
@@ -245,10 +245,10 @@ module _ (s : Settings) (log : List Line) (t : Timing) (timed : s.plan.timing �
     bytes = length one.f.payload.items
 
     abbrev with_frame : Option ℕ → Moments
-    with_frame time = moments_behind s there.broken there.anew time one.f one.at.past.number there.notes there.ending m
+    with_frame time = moments_behind s there.gap there.anew time one.f one.at.past.number there.notes there.ending m
 
     abbrev start : Moments
-    start = begun_anew s there.anew there.broken m
+    start = begun_anew s there.anew there.gap m
 
     -- what was known before it was so before the frame, if times go on
     start_last : (τ : ℕ) → start.before ≡ Some τ → IsLastAt number τ
@@ -304,15 +304,15 @@ module _ (s : Settings) (log : List Line) (t : Timing) (timed : s.plan.timing �
             }
 
     -- the idle mark behind the frame
-    mark_there : (time q : ℕ) → time_there l ≡ Some time → since_behind s t there.broken bytes time start.before start.since ≡ Some q → IsShownMark (number + 1) q
+    mark_there : (time q : ℕ) → time_there l ≡ Some time → since_behind s t there.gap bytes time start.before start.since ≡ Some q → IsShownMark (number + 1) q
     mark_there time q at e =
-        let idle : idle_behind s t there.broken bytes time start.before start.since ≡ Some q =
-        sym (ap (λ (x : Bound). since_by x (idle_behind s t there.broken bytes time start.before start.since) (earliest_end s time)) by_bus) ∙ e in
-        let test : Bool = shows_idle s t there.broken bytes time start.before in
+        let idle : idle_behind s t there.gap bytes time start.before start.since ≡ Some q =
+        sym (ap (λ (x : Bound). since_by x (idle_behind s t there.gap bytes time start.before start.since) (earliest_end s time)) by_bus) ∙ e in
+        let test : Bool = shows_idle s t there.gap bytes time start.before in
         elim (cases_Bool test) [
           | inl shows ↦
-              let rest = (and_parts (not s.part) (not there.broken && (leaves_idle t && is_apart (logger_error s) t bytes time start.before)) shows).1 in
-              let more = (and_parts (not there.broken) (leaves_idle t && is_apart (logger_error s) t bytes time start.before) rest).1 in
+              let rest = (and_parts (not s.part) (not there.gap && (leaves_idle t && is_apart (logger_error s) t bytes time start.before)) shows).1 in
+              let more = (and_parts (not there.gap) (leaves_idle t && is_apart (logger_error s) t bytes time start.before) rest).1 in
               let apart = (and_parts (leaves_idle t) (is_apart (logger_error s) t bytes time start.before) more).1 in
               let same : idle_mark s t bytes time ≡ q =
               same_Some (idle_mark s t bytes time) q (sym (cond-true test (Some (idle_mark s t bytes time)) start.since shows) ∙ idle) in

@@ -9,6 +9,7 @@ use Rattle.j39_network.specs.declared.plan.unit_plan.UnitPlan.{UnitPlan}
 use Rattle.j39_stream.specs.declared.verdict.Verdict.{Verdict}
 use Rattle.j39_audit.specs.AuditText.{AuditPast, IsAuditedLog, audit_text, audit_verdict, log_ended, nothing_read}
 use Rattle.j39_audit.specs.Responses.{AreResponsesBy, response}
+use Rattle.j39_audit.specs.Gaps.{quiet_by}
 use Rattle.j39_audit.specs.Settings.{AreMoving, Settings}
 use Rattle.j39_audit.specs.declared.by_load.Bound.TheVariants.{Bus}
 use Rattle.j39_load.specs.BusTimes.{timing_of}
@@ -72,9 +73,9 @@ one_audited s log text other verdict outcome a b =
     )
 
 pub one_audit : AuditHasOneText
-one_audit plan part stamps log text other verdict outcome a b =
+one_audit plan part stamps quiet log text other verdict outcome a b =
     let by : List Bool → List (Option ℕ) → Settings = λ moving responses.
-    record { plan = plan; moving = moving; part = part; stamps = stamps; responses = responses; bound = Bus } in
+    record { plan = plan; moving = moving; part = part; stamps = stamps; quiet = quiet_by plan quiet; responses = responses; bound = Bus } in
     one_audited (by b.moving b.responses) log text other verdict outcome
     (subst (λ (r : List (Option ℕ)). IsAuditedLog (by b.moving r) log text verdict)
     (same_responses plan (timing_of plan) a.responses b.responses a.responses_are b.responses_are)

@@ -26,7 +26,7 @@ use Rattle.j39_audit.specs.declared.mark.Word.TheVariants.{Short, Stranger, Nobo
 use Rattle.j39_audit.specs.declared.messages.Test.TheVariants.{Any}
 use Rattle.j39_audit.specs.declared.tally.Occurrences.{Occurrences}
 use Rattle.j39_audit_laws.specs.FoundLines.{Differs, IsAccusing, IsFoundAt, IsFrameAt, IsAccusedAs, IsReportedAt}
-use Rattle.j39_audit_laws.specs.OwnPart.{AlwaysCan, AreItsOwn, ClaimsItsOwn, IsByThePlan, IsItsNumber, IsNotNamed, LooksAsPlanned, SentBy, WaitsForPlanned}
+use Rattle.j39_audit_laws.specs.OwnPart.{AlwaysCan, AreItsOwn, ClaimsItsOwn, ClaimsWhereItMay, IsByThePlan, IsItsNumber, IsNotNamed, LooksAsPlanned, SaysCannotWhereItHasTo, SentBy, WaitsForPlanned}
 use Rattle.j39_audit_laws.proofs.Planned.{at_place, claims_so, differing_number, its_address, place_at, planned_alike, some_group}
 use Rattle.j39_audit_laws.proofs.Marking.{sender_of}
 use Rattle.j39_audit_laws.proofs.Occurrences.{lines_are_of_log}
@@ -102,19 +102,28 @@ of_frames s log word u accuses other none = none_of_subject s log word u accuses
 -- ---- claims
 
 pub can_claim : (s : Settings) (log : List Line) (sent : SentBy) (u : ℕ) → AreMoving s.plan s.moving → AreItsOwn s log sent u
-    → AlwaysCan s log sent u → IsNotNamed s log Cannot u
+    → SaysCannotWhereItHasTo s log sent u → IsNotNamed s log Cannot u
 can_claim s log sent u moving own keeps =
     of_frames s log Cannot u tt (λ e. cc e) (λ g n claims f packet at marked.
-    let (of, null, grouped) = marked in
-    keeps n claims f packet at (own.claims n claims f packet at of.claim of.unit_is) of.claim null)
+    let (of, null, needless, grouped) = marked in
+    needless (keeps n claims f packet at (own.claims n claims f packet at of.claim of.unit_is) of.claim null))
+
+-- who never says that it can't, and who claims its own addresses alone
+pub who_always_can : (s : Settings) (log : List Line) (sent : SentBy) (u : ℕ) → AlwaysCan s log sent u → SaysCannotWhereItHasTo s log sent u
+who_always_can s log sent u can n claims f packet at its claim null = absurd (can n claims f packet at its claim null)
+
+pub who_claims_its_own : (s : Settings) (log : List Line) (sent : SentBy) (u : ℕ) → ClaimsItsOwn s log sent u → ClaimsWhereItMay s log sent u
+who_claims_its_own s log sent u keeps n claims f packet at its claim some = inl (keeps n claims f packet at its claim some)
 
 pub claims_its_own : (s : Settings) (log : List Line) (sent : SentBy) (u : ℕ) → AreMoving s.plan s.moving → AreItsOwn s log sent u
-    → ClaimsItsOwn s log sent u → IsNotNamed s log Address u
+    → ClaimsWhereItMay s log sent u → IsNotNamed s log Address u
 claims_its_own s log sent u moving own keeps =
     of_frames s log Address u tt (λ e. cc e) (λ g n claims f packet at marked.
-    let (of, some, wrong, grouped) = marked in
-    let right = keeps n claims f packet at (own.claims n claims f packet at of.claim of.unit_is) of.claim some in
-    wrong (record { claims = claims_so s u right.0; own = its_address s moving u f.ident.sa right.1 }))
+    let (of, some, wrong, stays, grouped) = marked in
+    elim (keeps n claims f packet at (own.claims n claims f packet at of.claim of.unit_is) of.claim some) [
+      | inl right ↦ wrong (record { claims = claims_so s u right.0; own = its_address s moving u f.ident.sa right.1 })
+      | inr moves ↦ stays moves
+    ])
 
 -- ---- messages
 

@@ -1,5 +1,5 @@
 -- What a frame of a log does by load to a flow of which a message came, and none since.
-use Rattle.std.proofs.Common.{◌≡◌, ◌≢◌, ◌⊎◌, ℕ, ◌+◌, ◌<◌, ◌≤◌, ◌==◌, ◌++◌, [], List, Bool, true, false, cond, length}
+use Rattle.std.proofs.Common.{◌≡◌, ◌≢◌, ◌⊎◌, ℕ, ◌+◌, ◌<◌, ◌≤◌, ◌==◌, ◌||◌, ◌++◌, [], List, Bool, true, false, cond, length}
 use Rattle.std.proofs.Common.{inl, inr, refl, sym, ap, ◌∙◌, subst, arith, Option, Some, None}
 use Rattle.std.specs.Prelude.{Contains, nat_lt, slice_index_or}
 use Rattle.std.specs.List.{slice_get}
@@ -17,8 +17,8 @@ use Rattle.j39_network.specs.declared.plan.to.To.TheVariants.{One as ToOne}
 use Rattle.j39_audit.specs.Counting.{Noted}
 use Rattle.j39_audit.specs.Looking.{is_single}
 use Rattle.j39_audit.specs.MessageStreams.{asked_stream, nothing_sighted, sighted_behind, flow_pace, flow_pause, flow_pause_of, flow_stream, group_in_flow, is_in_stream, paced_stream, request_period, request_priority, shows_silence, sighted_stream, stream_pause}
-use Rattle.j39_audit.specs.Moments.{Moments, all_pauses_ended, begun_anew, earliest_end, listed_pauses_ended, long_before, lower_bound, moment_window, moments_behind, newest_moment, pauses_dropped, silent_noted, with_counted, with_ending, with_frame_of, with_message, with_moment, with_pause, with_stream, with_time}
-use Rattle.j39_audit.specs.Pauses.{unclear_behind}
+use Rattle.j39_audit.specs.Moments.{Moments, all_pauses_ended, begun_anew, earliest_end, listed_pauses_ended, long_before, lower_bound, moment_window, moments_behind, newest_moment, silent_noted, with_counted, with_deviating, with_ending, with_frame_of, with_message, with_moment, with_pause, with_stream, with_time}
+use Rattle.j39_audit.specs.Pauses.{stands_for, unclear_behind}
 use Rattle.j39_audit.specs.Settings.{Settings, by_load as judged_by_load, logger_error, response_of, units_planned}
 use Rattle.j39_audit.specs.Silence.{lag, latest_next, lies_behind, within_pause}
 use Rattle.j39_audit.specs.declared.pauses.Ending.{Ending}
@@ -243,7 +243,7 @@ module _ (plain : Settings) (w : Watched (judged_by_load plain)) where
 
   -- ---- a frame
 
-  module _ (broken anew : Bool) (time : Option ℕ) (f : Frame) (line : ℕ) (noted : List Noted) (ending : Ending) where
+  module _ (gap anew : Bool) (time : Option ℕ) (f : Frame) (line : ℕ) (noted : List Noted) (ending : Ending) where
     abbrev sighting : Sighting
     sighting = sighted_behind nothing_sighted noted
 
@@ -251,34 +251,34 @@ module _ (plain : Settings) (w : Watched (judged_by_load plain)) where
     unclear = unclear_behind [] noted
 
     abbrev with_frame : Moments → Moments
-    with_frame m = moments_behind s broken anew time f line noted ending m
+    with_frame m = moments_behind s gap anew time f line noted ending m
 
     -- behind what begins anew there
     abbrev with_rest : Option Timing → Option ℕ → Moments → Moments
-    with_rest timing τ m = with_time s timing broken τ f line sighting unclear ending m
+    with_rest timing τ m = with_time s timing gap τ f line sighting unclear ending m
 
     rest_keeps : (timing : Option Timing) (τ : Option ℕ) (m : Moments) → Keeps m (with_rest timing τ m)
     rest_keeps None τ m note is = is
     rest_keeps (Some x) None m note is = is
     rest_keeps (Some x) (Some τ) m note is =
-        let a : Moments = with_moment s x broken (length f.payload.items) τ m in
+        let a : Moments = with_moment s x gap (length f.payload.items) τ m in
         let b : Moments = with_ending s x ending a in
-        let c : Moments = listed_pauses_ended s x unclear (length unclear) b in
+        let c : Moments = with_deviating s sighting.deviating sighting.unit (listed_pauses_ended s x unclear (length unclear) b) in
         let d : Moments = with_stream s τ line (sighted_stream s x f sighting.flow sighting.request) c in
         counted_keeps sighting.unit line d note
         (stream_keeps τ line c (sighted_stream s x f sighting.flow sighting.request) note
         (listed_keep s x unclear (length unclear) b note (ending_keeps s x ending a note is)))
 
-    begun_keeps : (m : Moments) → Keeps m (begun_anew s anew broken m)
+    begun_keeps : (m : Moments) → Keeps m (begun_anew s anew gap m)
     begun_keeps m note is = elim anew as (λ a. In note (cond a (record (all_pauses_ended s m) { before = None; since = None; earliest = λ key. None })
-        (cond broken (pauses_dropped m) m)).untimely) [
+        (cond gap (all_pauses_ended s m) m)).untimely) [
           | true ↦ all_keep s m note is
-          | false ↦ elim broken as (λ b. In note (cond b (pauses_dropped m) m).untimely) [ true ↦ is | false ↦ is ]
+          | false ↦ elim gap as (λ b. In note (cond b (all_pauses_ended s m) m).untimely) [ true ↦ all_keep s m note is | false ↦ is ]
         ]
 
     pub frame_keeps : (m : Moments) → Keeps m (with_frame m)
     unfolding moments_behind
-    frame_keeps m note is = rest_keeps s.plan.timing time (begun_anew s anew broken m) note (begun_keeps m note is)
+    frame_keeps m note is = rest_keeps s.plan.timing time (begun_anew s anew gap m) note (begun_keeps m note is)
 
     -- a message of the flow is its newest one
     module _ (τ : ℕ) (time_is : time ≡ Some τ) (seen : sighting.flow ≡ Some n) (some : flow_stream s t f n ≢ None)
@@ -317,8 +317,8 @@ module _ (plain : Settings) (w : Watched (judged_by_load plain)) where
 
       after_all : (m : Moments) → IsOpen s w (with_rest (Some t) (Some τ) m)
       after_all m =
-          let c : Moments =
-          listed_pauses_ended s t unclear (length unclear) (with_ending s t ending (with_moment s t broken (length f.payload.items) τ m)) in
+          let c : Moments = with_deviating s sighting.deviating sighting.unit
+          (listed_pauses_ended s t unclear (length unclear) (with_ending s t ending (with_moment s t gap (length f.payload.items) τ m))) in
           let stream : sighted_stream s t f sighting.flow sighting.request ≡ flow_stream s t f n =
           ap (λ (o : Option ℕ). sighted_stream s t f o sighting.request) seen in
           counted_open sighting.unit (with_stream s τ line (sighted_stream s t f sighting.flow sighting.request) c)
@@ -331,13 +331,13 @@ module _ (plain : Settings) (w : Watched (judged_by_load plain)) where
       pub opens : (m : Moments) → IsOpen s w (with_frame m)
       unfolding moments_behind
       opens m =
-          let start : Moments = begun_anew s anew broken m in
+          let start : Moments = begun_anew s anew gap m in
           subst (λ (o : Option Timing). IsOpen s w (with_rest o time start)) (sym w.timed)
           (subst (λ (o : Option ℕ). IsOpen s w (with_rest (Some t) o start)) (sym time_is) (after_all start))
 
     -- the pause ends there
     abbrev pub EndsThere : Type 0
-    EndsThere = (anew ≡ true) ⊎ (EndsIt s w ending ⊎ Contains unclear n)
+    EndsThere = ((anew || gap) ≡ true) ⊎ (EndsIt s w ending ⊎ Contains unclear n)
 
     -- the flow stays as it was, and the frame is no message of it
     pub record IsStill (m new : Moments) : Type 0 where
@@ -348,8 +348,9 @@ module _ (plain : Settings) (w : Watched (judged_by_load plain)) where
       pub unended : ¬ EndsThere
       pub unseen : IsUnseen f sighting.flow
 
-    module _ (m : Moments) (is : IsOpen s w m) (quiet : anew ≡ false → broken ≡ false) (timeless : time ≡ None → anew ≡ true)
-        (shown : EndsThere → AreShown s w m) (late : sighting.flow ≡ Some n → (τ : ℕ) → time ≡ Some τ → bound s w < earliest_end s τ) where
+    module _ (m : Moments) (is : IsOpen s w m) (timeless : time ≡ None → anew ≡ true)
+        (shown : EndsThere → AreShown s w m)
+        (unstood : stands_for s.plan sighting.deviating sighting.unit n ≡ false) (late : sighting.flow ≡ Some n → (τ : ℕ) → time ≡ Some τ → bound s w < earliest_end s τ) where
       contained : (i : ℕ) → i < length unclear → slice_index_or unclear i 0 ≡ n → Contains unclear n
       contained i less at = (i, less, get_or_default unclear i n 0 less ∙ at)
 
@@ -359,29 +360,35 @@ module _ (plain : Settings) (w : Watched (judged_by_load plain)) where
       abbrev Goes : Moments → Type 0
       Goes new = IsStill m new ⊎ IsStated s w new
 
-      on_time : (τ : ℕ) → time ≡ Some τ → anew ≡ false → Goes (with_rest (Some t) (Some τ) m)
+      on_time : (τ : ℕ) → time ≡ Some τ → (anew || gap) ≡ false → Goes (with_rest (Some t) (Some τ) m)
       on_time τ at begun =
-          let a : Moments = with_moment s t broken (length f.payload.items) τ m in
+          let a : Moments = with_moment s t gap (length f.payload.items) τ m in
           let b : Moments = with_ending s t ending a in
           let c : Moments = listed_pauses_ended s t unclear (length unclear) b in
-          let d : Moments = with_stream s τ line (sighted_stream s t f sighting.flow sighting.request) c in
+          let e : Moments = with_deviating s sighting.deviating sighting.unit c in
+          let d : Moments = with_stream s τ line (sighted_stream s t f sighting.flow sighting.request) e in
+          let same_e : IsSame s w c e = record {
+            newest = cond-false (stands_for s.plan sighting.deviating sighting.unit n) None (c.newest n) unstood;
+            last = λ u end. refl;
+            since = refl;
+          } in
           let opened : IsOpen s w a = record { newest = is.newest; newest_is = is.newest_is; moment = is.moment; line = is.line } in
           elim (claimed s w ending a opened (λ ends. shown (inr (inl ends)))) [
             | inr stated ↦ inr (reported_on s w b (with_counted s sighting.unit line d) (λ note in_b.
-                counted_keeps sighting.unit line d note (stream_keeps τ line c (sighted_stream s t f sighting.flow sighting.request) note
+                counted_keeps sighting.unit line d note (stream_keeps τ line e (sighted_stream s t f sighting.flow sighting.request) note
                 (listed_keep s t unclear (length unclear) b note in_b))) stated)
             | inl (same_b, unended) ↦
                 elim (listed s w unclear b (same_open s w a b same_b opened)
                 (λ i less here. same_shown s w a b same_b (shown (inr (inr (contained i less here))))) (length unclear) (omega arith)) [
                   | inr stated ↦ inr (reported_on s w c (with_counted s sighting.unit line d) (λ note in_c.
-                      counted_keeps sighting.unit line d note (stream_keeps τ line c (sighted_stream s t f sighting.flow sighting.request) note in_c)) stated)
+                      counted_keeps sighting.unit line d note (stream_keeps τ line e (sighted_stream s t f sighting.flow sighting.request) note in_c)) stated)
                   | inl (same_c, others) ↦
-                      let both : IsSame s w a c = same_more s w a b c same_b same_c in
-                      elim (with_messages_of τ line c f sighting.flow sighting.request (earliest_end s τ) (same_open s w a c both opened) both.since
+                      let both : IsSame s w a e = same_more s w a c e (same_more s w a b c same_b same_c) same_e in
+                      elim (with_messages_of τ line e f sighting.flow sighting.request (earliest_end s τ) (same_open s w a e both opened) both.since
                       (λ seen. late seen τ at)) [
                         | inr stated ↦ inr (reported_on s w d (with_counted s sighting.unit line d) (counted_keeps sighting.unit line d) stated)
                         | inl (same_d, unseen) ↦
-                            let all : IsSame s w a d = same_more s w a c d both same_d in
+                            let all : IsSame s w a d = same_more s w a e d both same_d in
                             let end = counts sighting.unit line (earliest_end s τ) d (same_open s w a d all opened) all.since in
                             inl (record {
                               opened = end.0;
@@ -404,21 +411,31 @@ module _ (plain : Settings) (w : Watched (judged_by_load plain)) where
       frame_goes = elim (cases_Bool anew) [
         | inl begins ↦
             let all : Moments = all_pauses_ended s m in
-            let stated = all_stated s w m is (shown (inl begins)) in
-            let start : Moments = begun_anew s anew broken m in
+            let stated = all_stated s w m is (shown (inl (ap (λ (b : Bool). b || gap) begins))) in
+            let start : Moments = begun_anew s anew gap m in
             let here : start ≡ record all { before = None; since = None; earliest = λ key. None } =
-            cond-true anew (record all { before = None; since = None; earliest = λ key. None }) (cond broken (pauses_dropped m) m) begins in
+            cond-true anew (record all { before = None; since = None; earliest = λ key. None }) (cond gap (all_pauses_ended s m) m) begins in
             let reported_there : IsStated s w start =
             subst (IsStated s w) (sym here) (record { note = stated.note; noted = stated.noted; mark_is = stated.mark_is }) in
             inr (reported_on s w start (with_frame m) (rest_keeps s.plan.timing time start) reported_there)
         | inr on ↦
-            let start : begun_anew s anew broken m ≡ m =
-            cond-false anew (record (all_pauses_ended s m) { before = None; since = None; earliest = λ key. None }) (cond broken (pauses_dropped m) m) on
-            ∙ cond-false broken (pauses_dropped m) m (quiet on) in
-            subst (λ (x : Moments). Goes (with_rest s.plan.timing time x)) (sym start)
-            (subst (λ (o : Option Timing). Goes (with_rest o time m)) (sym w.timed)
-            (elim (time) as (λ o. time ≡ o → Goes (with_rest (Some t) o m)) [
-              | None ↦ λ none. absurd (true≢false (sym (timeless none) ∙ on))
-              | Some τ ↦ λ at. on_time τ at on
-            ] refl))
+            let start : Moments = begun_anew s anew gap m in
+            let goes_on : start ≡ cond gap (all_pauses_ended s m) m =
+            cond-false anew (record (all_pauses_ended s m) { before = None; since = None; earliest = λ key. None }) (cond gap (all_pauses_ended s m) m) on in
+            elim (cases_Bool gap) [
+              | inl ends ↦
+                  let both : (anew || gap) ≡ true = ap (λ (b : Bool). b || gap) on ∙ ends in
+                  let here : start ≡ all_pauses_ended s m = goes_on ∙ cond-true gap (all_pauses_ended s m) m ends in
+                  inr (reported_on s w start (with_frame m) (rest_keeps s.plan.timing time start)
+                  (subst (IsStated s w) (sym here) (all_stated s w m is (shown (inl both)))))
+              | inr still ↦
+                  let none : (anew || gap) ≡ false = ap (λ (b : Bool). b || gap) on ∙ still in
+                  let here : start ≡ m = goes_on ∙ cond-false gap (all_pauses_ended s m) m still in
+                  subst (λ (x : Moments). Goes (with_rest s.plan.timing time x)) (sym here)
+                  (subst (λ (o : Option Timing). Goes (with_rest o time m)) (sym w.timed)
+                  (elim (time) as (λ o. time ≡ o → Goes (with_rest (Some t) o m)) [
+                    | None ↦ λ none_there. absurd (true≢false (sym (timeless none_there) ∙ on))
+                    | Some τ ↦ λ at. on_time τ at none
+                  ] refl))
+            ]
       ]

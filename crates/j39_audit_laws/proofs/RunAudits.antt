@@ -203,12 +203,12 @@ module _ (s : Settings) (moving : AreMoving s.plan s.moving) (log : List Line) (
 
   pub no_cannot_line : IsNotWritten s log Cannot
   no_cannot_line = no_word s log Cannot (λ u. of_frames s log Cannot u tt (λ e. cc e) (λ g n claims f packet at marked.
-      let (of, null, grouped) = marked in
+      let (of, null, needless, grouped) = marked in
       (its_claim n claims f packet at of.claim).some null))
 
   pub no_address_line : IsNotWritten s log Address
   no_address_line = no_word s log Address (λ u. of_frames s log Address u tt (λ e. cc e) (λ g n claims f packet at marked.
-      let (of, some, wrong, grouped) = marked in
+      let (of, some, wrong, stays, grouped) = marked in
       let its = its_claim n claims f packet at of.claim in
       let same : its.unit ≡ u = same_Some its.unit u (sym its.unit_is ∙ of.unit_is) in
       wrong (record {

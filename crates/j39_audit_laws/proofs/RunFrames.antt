@@ -20,7 +20,7 @@ use Rattle.j39_audit_laws.specs.OwnPart.{ClaimsAddresses, IsItsAddress, IsOfFlow
 
 -- of a unit by its NAME, as an audit hears it
 abbrev pub heard_of : Plan → Frame → Heard
-heard_of plan f = record { unit = unit_of_name plan (name_in f); source = f.ident.sa }
+heard_of plan f = record { unit = unit_of_name plan (name_in f); source = f.ident.sa; name = name_in f }
 
 -- the claims of these frames, behind those before them, the newest one first
 abbrev pub claims_of : Plan → List Heard → List Frame → List Heard

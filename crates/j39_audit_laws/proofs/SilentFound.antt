@@ -1,5 +1,5 @@
 -- A flow of which no message comes for long, while its ends are there, is reported as silent.
-use Rattle.std.proofs.Common.{◌≡◌, ◌≢◌, ◌⊎◌, ℕ, ◌+◌, ◌-◌, ◌*◌, ◌^◌, ◌<◌, ◌≤◌, List, [], Bool, true, false, length}
+use Rattle.std.proofs.Common.{◌≡◌, ◌≢◌, ◌⊎◌, ℕ, ◌+◌, ◌-◌, ◌*◌, ◌^◌, ◌<◌, ◌≤◌, ◌||◌, List, [], Bool, true, false, length}
 use Rattle.std.proofs.Common.{inl, inr, refl, sym, ap, ◌∙◌, subst, arith, Option, Some, None}
 use Rattle.std.specs.Prelude.{Contains}
 use Rattle.std.specs.List.{slice_get}
@@ -13,14 +13,14 @@ use Rattle.j39_network.specs.declared.plan.timing.Timing.{Timing}
 use Rattle.j39_tp.specs.declared.packet.Packet.{Packet}
 use Rattle.j39_timing.specs.Messages.{frame_end}
 use Rattle.j39_timing.specs.TimedFrames.{Schedule}
-use Rattle.j39_audit.specs.AuditText.{AuditPast, AuditsLines, claims_before, moments_with_frame, nothing_read, noted_newly, with_next_number}
-use Rattle.j39_audit.specs.Breaks.{breaks, line_time}
+use Rattle.j39_audit.specs.AuditText.{AuditPast, AuditsLines, claims_before, gap_before, moments_with_frame, nothing_read, noted_newly, with_next_number}
+use Rattle.j39_audit.specs.Breaks.{line_time}
 use Rattle.j39_audit.specs.Claiming.{HeardClaims, knowledge}
 use Rattle.j39_audit.specs.Counting.{Noted}
 use Rattle.j39_audit.specs.Looking.{is_single}
 use Rattle.j39_audit.specs.MessageStreams.{flow_stream, is_in_stream, nothing_sighted, sighted_behind}
 use Rattle.j39_audit.specs.Moments.{Moments, all_pauses_ended, begins_anew, earliest_end, long_before}
-use Rattle.j39_audit.specs.Pauses.{ending_of, is_with_unit, unclear_behind}
+use Rattle.j39_audit.specs.Pauses.{ending_of, is_with_unit, stands_for, unclear_behind}
 use Rattle.j39_audit.specs.Settings.{Settings, by_load as judged_by_load, logger_error}
 use Rattle.j39_audit.specs.declared.pauses.Ending.{Ending}
 use Rattle.j39_audit_laws.specs.FoundLines.{IsFrameAt}
@@ -117,8 +117,8 @@ module _ (plain : Settings) (log : List Line) (t : Timing) (timed : plain.plan.t
     abbrev time : Option ℕ
     time = line_time plain.plan at.time
 
-    abbrev broken : Bool
-    broken = breaks plain.stamps at.past.newest time
+    abbrev gap : Bool
+    gap = gap_before plain at.past time
 
     abbrev anew : Bool
     anew = begins_anew plain.stamps at.past.newest time
@@ -158,12 +158,13 @@ module _ (plain : Settings) (log : List Line) (t : Timing) (timed : plain.plan.t
       counts_here : (u : ℕ) → CountsFor l u → (sighted_behind nothing_sighted noted).unit ≡ Some u
       counts_here u is = subst (λ (x : List Noted). (sighted_behind nothing_sighted x).unit ≡ Some u) same_notes is
 
-      ends_here : BeginsAnew l ⊎ (ClaimEndsPause l n ⊎ IsUnclearOf l n) → frames.EndsThere plain w broken anew time f at.past.number noted ending
+      ends_here : BeginsAnew l ⊎ (ClaimEndsPause l n ⊎ IsUnclearOf l n) → frames.EndsThere plain w gap anew time f at.past.number noted ending
       unfolding is_with_unit
       ends_here (inl begins) =
           let same = one_frame_at plain log number l.claims claims l.f f l.packet packet l.at at in
-          inl (sym (ap (λ (x : List ℕ). begins_anew plain.stamps l.at.past.newest (line_time plain.plan x)) same.time_is
-          ∙ ap (λ (q : AuditPast). begins_anew plain.stamps q.newest time) same.past_is) ∙ begins)
+          inl (sym (ap (λ (x : List ℕ). begins_anew plain.stamps l.at.past.newest (line_time plain.plan x)
+          || gap_before plain l.at.past (line_time plain.plan x)) same.time_is
+          ∙ ap (λ (q : AuditPast). begins_anew plain.stamps q.newest time || gap_before plain q time) same.past_is) ∙ begins)
       ends_here (inr (inl claim)) =
           let same = one_frame_at plain log number l.claims claims l.f f l.packet packet l.at at in
           let is : ending_of plain (knowledge plain l.claims) l.f ≡ ending =
@@ -176,7 +177,7 @@ module _ (plain : Settings) (log : List Line) (t : Timing) (timed : plain.plan.t
       ends_here (inr (inr unclear)) = inr (inr (subst (λ (x : List Noted). Contains (unclear_behind [] x) n) same_notes unclear))
 
     -- an end of the pause there is one at the line
-    ends_at : frames.EndsThere plain w broken anew time f at.past.number noted ending → EndsPauseAt plain log number n
+    ends_at : frames.EndsThere plain w gap anew time f at.past.number noted ending → EndsPauseAt plain log number n
     unfolding is_with_unit
     ends_at (inl begins) = inr (line, inl begins)
     ends_at (inr (inl claim)) =
@@ -207,15 +208,15 @@ module _ (plain : Settings) (log : List Line) (t : Timing) (timed : plain.plan.t
         | inr less ↦ omega (arith, less, before_is)
       ]
 
-      quiet : anew ≡ false → broken ≡ false
-      quiet on = false_from_ne_true broken (λ breaks_off.
-          long.no_quiet number line (omega (arith, first, before_is)) up_to (record { broken = breaks_off; on = on }))
-
-      ends_behind : frames.EndsThere plain w broken anew time f at.past.number noted ending → AreShown s w m
+      ends_behind : frames.EndsThere plain w gap anew time f at.past.number noted ending → AreShown s w m
       ends_behind ends = elim (cases_le number long.last) [
         | inl between ↦ absurd (long.unended number (omega (arith, first, before_is)) between (ends_at ends))
         | inr behind ↦ all_shown before m (omega (arith, behind, before_is)) is
       ]
+
+      unstood : stands_for plain.plan (sighted_behind nothing_sighted noted).deviating (sighted_behind nothing_sighted noted).unit n ≡ false
+      unstood = false_from_ne_true (stands_for plain.plan (sighted_behind nothing_sighted noted).deviating (sighted_behind nothing_sighted noted).unit n)
+          (λ stands. long.none_stands number line (omega (arith, first, before_is)) up_to stands)
 
       late_message : (sighted_behind nothing_sighted noted).flow ≡ Some n → (τ : ℕ) → time ≡ Some τ → bound s w < earliest_end s τ
       late_message seen τ timed_at = elim (cases_lt number long.last) [
@@ -227,10 +228,10 @@ module _ (plain : Settings) (log : List Line) (t : Timing) (timed : plain.plan.t
       ]
 
       abbrev Still : Type 0
-      Still = frames.IsStill plain w broken anew time f at.past.number noted ending m new
+      Still = frames.IsStill plain w gap anew time f at.past.number noted ending m new
 
       goes_there : Still ⊎ IsStated s w new
-      goes_there = frames.frame_goes plain w broken anew time f at.past.number noted ending m is.opened quiet timeless ends_behind late_message
+      goes_there = frames.frame_goes plain w gap anew time f at.past.number noted ending m is.opened timeless ends_behind unstood late_message
 
       watched : Still → IsWatched number new
       watched still = record {
@@ -278,13 +279,13 @@ module _ (plain : Settings) (log : List Line) (t : Timing) (timed : plain.plan.t
     -- at the first message
     opens : (message : IsMessageAt plain log number n) → message.time ≡ long.message.time → number ≡ long.first → IsOpen s w new
     opens message same here =
-        frames.opens plain w broken anew time f at.past.number noted ending message.time (message_time message) (seen_message message) (has_stream message)
+        frames.opens plain w gap anew time f at.past.number noted ending message.time (message_time message) (seen_message message) (has_stream message)
         (omega (arith, same)) (line_number ∙ here) m
 
     -- what comes where the pause ends at last
     comes_not : (IsMessageAt plain log number n ⊎ EndsPauseAt plain log number n)
         → (frames.IsUnseen plain w f (sighted_behind nothing_sighted noted).flow)
-        → (¬ frames.EndsThere plain w broken anew time f at.past.number noted ending) → ⊥
+        → (¬ frames.EndsThere plain w gap anew time f at.past.number noted ending) → ⊥
     comes_not (inl message) unseen unended = has_stream message (unseen (seen_message message))
     comes_not (inr (inl bad)) unseen unended = bad_no_frame plain log number bad claims f packet at
     comes_not (inr (inr (l, ends))) unseen unended = unended (ends_here l ends)

@@ -78,12 +78,12 @@ module _ (s : Settings) (k : Knowledge) (f : Frame) (packet : Option Packet) (li
       (words_both is_sure_word first (request_noted s k u f line) (refl, message_sure (message_sent u f packet)) (request_sure u))
       (words_if is_sure_word (noted_at line Urgent u 0) (is_urgent s u f) refl)
 
-  claim_sure : (o : Option ℕ) → AreSure (claim_noted s f line o)
+  claim_sure : (o : Option ℕ) → AreSure (claim_noted s k f line o)
   claim_sure None = words_if is_sure_word (noted_with line Stranger f.ident.sa (name_in f)) _ refl
   claim_sure (Some u) =
-      words_both is_sure_word (claim_place s f line u) (noted_if (is_above_unplanned s f) (noted_at line Urgent u 0))
-      (cond_both (f.ident.sa == null_address) (noted_at line Cannot u 0 ∷ []) (noted_if _ (noted_with line Address u f.ident.sa)) AreSure
-      (λ _. (refl, tt)) (λ _. words_if is_sure_word (noted_with line Address u f.ident.sa) _ refl))
+      words_both is_sure_word (claim_place s k f line u) (noted_if (is_above_unplanned s f) (noted_at line Urgent u 0))
+      (cond_both (f.ident.sa == null_address) (noted_if _ (noted_at line Cannot u 0)) (noted_if _ (noted_with line Address u f.ident.sa)) AreSure
+      (λ _. words_if is_sure_word (noted_at line Cannot u 0) _ refl) (λ _. words_if is_sure_word (noted_with line Address u f.ident.sa) _ refl))
       (words_if is_sure_word (noted_at line Urgent u 0) (is_above_unplanned s f) refl)
 
   sent_sure : (sure : SureSender) → (sure ≡ Unknown → ⊥) → AreSure (sent_noted s k f packet line sure)
@@ -96,7 +96,7 @@ frame_sure : (s : Settings) (claims : HeardClaims) (f : Frame) (packet : Option 
 frame_sure s claims f packet line known =
     let k : Knowledge = knowledge s claims in
     let sender : SureSender = sender_at s k f.ident.sa in
-    cond_both (is_claim f) (claim_noted s f line (unit_of_name s.plan (name_in f)))
+    cond_both (is_claim f) (claim_noted s k f line (unit_of_name s.plan (name_in f)))
     (if is_address f.ident.sa then sent_noted s k f packet line sender else []) AreSure
     (λ _. claim_sure s k f packet line (unit_of_name s.plan (name_in f)))
     (λ _. cond_both (is_address f.ident.sa) (sent_noted s k f packet line sender) [] AreSure

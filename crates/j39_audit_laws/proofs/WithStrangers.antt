@@ -1,9 +1,8 @@
 -- Where strangers may come, no frame is accused of being one's, nor of being nobody's.
-use Rattle.std.proofs.Common.{◌≡◌, ◌≢◌, ℕ, ◌<◌, Bool, true, false, if◌then◌else◌, List, [], Option, Some, None, refl, sym, ap, ◌∙◌, arith}
-use Rattle.std.specs.Prelude.{nat_lt}
+use Rattle.std.proofs.Common.{◌≡◌, ◌≢◌, ℕ, ◌<◌, Bool, true, false, if◌then◌else◌, List, Option, Some, None, sym, ◌∙◌, arith}
 use Rattle.std.proofs.lemmas.Bool.{cond-true, lt-ltb}
 use Rattle.j39_id.specs.Lines.{Line}
-use Rattle.j39_audit.specs.AuditText.{AuditPast, AuditsLines, look_at, nothing_read, subjects, subject_lines, word_lines}
+use Rattle.j39_audit.specs.AuditText.{look_at, subjects, subject_lines, word_lines}
 use Rattle.j39_audit.specs.Claiming.{Knowledge, first_there, has_strangers, is_another_there, is_strange, sender_at, sure_sender}
 use Rattle.j39_audit.specs.Settings.{Settings}
 use Rattle.j39_audit.specs.declared.mark.Word.TheVariants.{Stranger, Nobody as NobodyThere}
@@ -16,7 +15,7 @@ module _ (s : Settings) (some : 0 < s.plan.strangers) where
   come : has_strangers s ≡ true
   come = lt-ltb 0 s.plan.strangers some
 
-  -- nobody is never sure to be at an address
+  -- that nobody is at an address is never sure
   never_sure : (k : Knowledge) (a : ℕ) → sender_at s k a ≢ Nobody
   unfolding sender_at
   never_sure k a is = go (is_strange s k a) is

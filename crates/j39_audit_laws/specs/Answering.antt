@@ -38,9 +38,9 @@ request_kept t request sign = if is_late t request sign then None else request
 
 -- ---- a frame of a log
 
--- the log breaks off or times begin anew, or the unit claims
+-- a gap ends or times begin anew, or the unit claims
 abbrev pub forgets_at : Settings → Bool → Bool → Frame → ℕ → Bool
-forgets_at s broken anew f u = (anew || broken) || (is_claim f && is_at (claimant s f).unit u)
+forgets_at s gap anew f u = (anew || gap) || (is_claim f && is_at (claimant s f).unit u)
 
 abbrev pub asks_at : Settings → Knowledge → Option ℕ → Frame → ℕ → ℕ → Option ClaimRequest
 asks_at s k None f line u = None
@@ -51,9 +51,9 @@ sign_at unit idle u = if is_at unit u then Some idle else None
 
 -- of each unit the request behind a frame is by that before it as one line has it
 abbrev pub KeepsRequests : Type 0
-KeepsRequests = (s : Settings) (t : Timing) (k : Knowledge) (broken anew : Bool) (time : Option ℕ) (f : Frame) (line : ℕ) (unit idle : Option ℕ)
-    (a : Asking) (u : ℕ) → s.plan.timing ≡ Some t → (asking_behind s k broken anew time f line unit idle a).asked u
-    ≡ request_kept t (request_next (forgets_at s broken anew f u) (asks_at s k time f line u) (a.asked u)) (sign_at unit idle u)
+KeepsRequests = (s : Settings) (t : Timing) (k : Knowledge) (gap anew : Bool) (time : Option ℕ) (f : Frame) (line : ℕ) (unit idle : Option ℕ)
+    (a : Asking) (u : ℕ) → s.plan.timing ≡ Some t → (asking_behind s k gap anew time f line unit idle a).asked u
+    ≡ request_kept t (request_next (forgets_at s gap anew f u) (asks_at s k time f line u) (a.asked u)) (sign_at unit idle u)
 
 -- and of the unit for which it counts, if it does, it is noted, at the line of the request, where this is late; and nothing else is
 abbrev pub deaf_there : ℕ → Bool → Option ClaimRequest → List Noted
@@ -65,9 +65,9 @@ deaf_of t None idle request = []
 deaf_of t (Some u) idle request = deaf_there u (is_late t (request u) (Some idle)) (request u)
 
 abbrev pub NotesTheDeaf : Type 0
-NotesTheDeaf = (s : Settings) (t : Timing) (k : Knowledge) (broken anew : Bool) (time : Option ℕ) (f : Frame) (line : ℕ) (unit idle : Option ℕ)
-    (a : Asking) → s.plan.timing ≡ Some t → (asking_behind s k broken anew time f line unit idle a).deaf
-    ≡ a.deaf ++ deaf_of t unit idle (λ u. request_next (forgets_at s broken anew f u) (asks_at s k time f line u) (a.asked u))
+NotesTheDeaf = (s : Settings) (t : Timing) (k : Knowledge) (gap anew : Bool) (time : Option ℕ) (f : Frame) (line : ℕ) (unit idle : Option ℕ)
+    (a : Asking) → s.plan.timing ≡ Some t → (asking_behind s k gap anew time f line unit idle a).deaf
+    ≡ a.deaf ++ deaf_of t unit idle (λ u. request_next (forgets_at s gap anew f u) (asks_at s k time f line u) (a.asked u))
 
 -- ---- lines behind one another
 

@@ -14,7 +14,7 @@ use Rattle.j39_audit.specs.AuditText.{AuditPast, AuditsLines, claims_before, gro
 use Rattle.j39_audit.specs.Breaks.{line_time}
 use Rattle.j39_audit.specs.Claiming.{HeardClaims, is_address_of, knowledge, sender_at}
 use Rattle.j39_audit.specs.Counting.{most_times}
-use Rattle.j39_audit.specs.Looking.{IsPacketOf, is_above_unplanned, is_claim, is_claiming, is_urgent, message_sent}
+use Rattle.j39_audit.specs.Looking.{IsPacketOf, has_to_say_cannot, is_above_unplanned, is_claim, is_claiming, is_urgent, may_move_to, message_sent}
 use Rattle.j39_audit.specs.SentMessages.{SentMessage, deviation}
 use Rattle.j39_audit.specs.Settings.{Settings}
 use Rattle.j39_audit.specs.declared.mark.Mark.{Mark}
@@ -86,6 +86,13 @@ pub record ClaimsRightly (s : Settings) (u a : ℕ) : Type 0 where
   pub claims : is_claiming s u ≡ true
   pub own : is_address_of s u a ≡ true
 
+-- by these claims it has to give way, and says so, as its NAME doesn't let it choose; or this lets it choose, and it goes there
+abbrev pub HasToSayCannot : Settings → HeardClaims → Frame → ℕ → Type 0
+HasToSayCannot s claims f u = has_to_say_cannot s (knowledge s claims) (name_in f) u ≡ true
+
+abbrev pub MayMoveThere : Settings → HeardClaims → Frame → ℕ → Type 0
+MayMoveThere s claims f u = may_move_to s (knowledge s claims) (name_in f) u f.ident.sa ≡ true
+
 -- a message of the unit, in one frame or announced by it, differs so from all that the plan has of the unit
 pub record Differs (s : Settings) (claims : HeardClaims) (f : Frame) (packet : Option Packet) (m : Mark) : Type 0 where
   pub sent : IsSentFrom s claims f (OfUnit m.subject)
@@ -98,8 +105,9 @@ abbrev pub IsAccusedAs : Settings → HeardClaims → Frame → Option Packet �
 IsAccusedAs s claims f packet Short subject group = ⊥
 IsAccusedAs s claims f packet Stranger a group = IsClaimOf s f None × (s.plan.strangers ≡ 0) × (f.ident.sa ≡ a) × (group ≡ 0)
 IsAccusedAs s claims f packet NobodyThere a group = IsSentFrom s claims f Nobody × (f.ident.sa ≡ a) × (group ≡ 0)
-IsAccusedAs s claims f packet Address u group = IsClaimOf s f (Some u) × (f.ident.sa ≢ null_address) × (¬ ClaimsRightly s u f.ident.sa) × (group ≡ 0)
-IsAccusedAs s claims f packet Cannot u group = IsClaimOf s f (Some u) × (f.ident.sa ≡ null_address) × (group ≡ 0)
+IsAccusedAs s claims f packet Address u group =
+    IsClaimOf s f (Some u) × (f.ident.sa ≢ null_address) × (¬ ClaimsRightly s u f.ident.sa) × (¬ MayMoveThere s claims f u) × (group ≡ 0)
+IsAccusedAs s claims f packet Cannot u group = IsClaimOf s f (Some u) × (f.ident.sa ≡ null_address) × (¬ HasToSayCannot s claims f u) × (group ≡ 0)
 IsAccusedAs s claims f packet Layout u group = Differs s claims f packet (record { word = Layout; subject = u; group = group })
 IsAccusedAs s claims f packet NoFlow u group = Differs s claims f packet (record { word = NoFlow; subject = u; group = group })
 IsAccusedAs s claims f packet Priority u group = Differs s claims f packet (record { word = Priority; subject = u; group = group })

@@ -28,7 +28,7 @@ use Rattle.j39_audit.specs.SentMessages.{SentMessage}
 use Rattle.j39_audit.specs.Settings.{Settings}
 use Rattle.j39_audit.specs.declared.mark.Word.{Word}
 use Rattle.j39_audit.specs.declared.senders.SureSender.TheVariants.{Unit as OfUnit}
-use Rattle.j39_audit_laws.specs.FoundLines.{IsFrameAt}
+use Rattle.j39_audit_laws.specs.FoundLines.{HasToSayCannot, IsFrameAt, MayMoveThere}
 
 -- ---- the plan
 
@@ -102,10 +102,21 @@ OfItsFrames s log sent u Holds = (number : ℕ) (claims : HeardClaims) (f : Fram
 abbrev pub AlwaysCan : Settings → List Line → SentBy → ℕ → Type 0
 AlwaysCan s log sent u = OfItsFrames s log sent u (λ claims f packet. is_claim f ≡ true → f.ident.sa ≢ null_address)
 
+-- or it does so only where it has to give way, as its NAME doesn't let it choose
+abbrev pub SaysCannotWhereItHasTo : Settings → List Line → SentBy → ℕ → Type 0
+SaysCannotWhereItHasTo s log sent u = OfItsFrames s log sent u
+    (λ claims f packet. is_claim f ≡ true → f.ident.sa ≡ null_address → HasToSayCannot s claims f u)
+
 -- it claims only where the plan says that it claims, and its claims are of its addresses
 abbrev pub ClaimsItsOwn : Settings → List Line → SentBy → ℕ → Type 0
 ClaimsItsOwn s log sent u = OfItsFrames s log sent u
     (λ claims f packet. is_claim f ≡ true → f.ident.sa ≢ null_address → ClaimsAddresses s.plan u × IsItsAddress s.plan u f.ident.sa)
+
+-- or, where it has to give way and its NAME lets it choose, of one that isn't kept free
+abbrev pub ClaimsWhereItMay : Settings → List Line → SentBy → ℕ → Type 0
+ClaimsWhereItMay s log sent u = OfItsFrames s log sent u
+    (λ claims f packet. is_claim f ≡ true → f.ident.sa ≢ null_address
+    → (ClaimsAddresses s.plan u × IsItsAddress s.plan u f.ident.sa) ⊎ MayMoveThere s claims f u)
 
 -- each message that has, or announces, a number of one of its groups is of one of its flows
 abbrev pub LooksAsPlanned : Settings → List Line → SentBy → ℕ → Type 0

@@ -1,5 +1,5 @@
 -- What the lines of a log are for a flow with a pause: its messages, frames of its ends, and where its pause ends.
-use Rattle.std.specs.Prelude.{◌≡◌, ◌≢◌, ◌⊎◌, ℕ, true, false, List, [], Contains, Option, Some}
+use Rattle.std.specs.Prelude.{◌≡◌, ◌≢◌, ◌⊎◌, ◌||◌, ℕ, true, List, [], Contains, Option, Some}
 use Rattle.std.specs.List.{slice_get}
 use Rattle.j39_id.specs.FrameLine.{HasLineFault}
 use Rattle.j39_id.specs.Ident.{pgn_of}
@@ -11,13 +11,13 @@ use Rattle.j39_network.specs.declared.plan.flow_plan.FlowPlan.{FlowPlan}
 use Rattle.j39_network.specs.declared.plan.group_plan.GroupPlan.{GroupPlan}
 use Rattle.j39_follow.specs.LogLines.{IsElsewhere, IsReadPart, NamesInterface}
 use Rattle.j39_tp.specs.declared.packet.Packet.{Packet}
-use Rattle.j39_audit.specs.AuditText.{AuditPast, counted_for, noted_newly}
-use Rattle.j39_audit.specs.Breaks.{breaks, line_time}
+use Rattle.j39_audit.specs.AuditText.{AuditPast, counted_for, gap_before, noted_newly}
+use Rattle.j39_audit.specs.Breaks.{line_time}
 use Rattle.j39_audit.specs.Claiming.{HeardClaims, knowledge}
 use Rattle.j39_audit.specs.Looking.{is_single}
 use Rattle.j39_audit.specs.MessageStreams.{is_in_stream, nothing_sighted, sighted_behind}
 use Rattle.j39_audit.specs.Moments.{begins_anew}
-use Rattle.j39_audit.specs.Pauses.{ending_of, is_with_unit, unclear_behind}
+use Rattle.j39_audit.specs.Pauses.{ending_of, is_with_unit, stands_for, unclear_behind}
 use Rattle.j39_audit.specs.Settings.{Settings}
 use Rattle.j39_audit.specs.declared.pauses.Ending.TheVariants.{OfUnit as EndsOfUnit, OfAll as EndsOfAll}
 use Rattle.j39_audit_laws.specs.FoundLines.{IsFrameAt, IsLineOf, IsReadHere}
@@ -66,13 +66,14 @@ ClaimEndsPause {s} l n =
 abbrev pub IsUnclearOf : {s : Settings} {log : List Line} {number : ℕ} → FrameLine s log number → ℕ → Type 0
 IsUnclearOf {s} l n = Contains (unclear_behind [] (noted_newly s l.at.past (time_there l) l.f l.packet)) n
 
--- times begin anew just before it; or a quiet second ends there
-abbrev pub BeginsAnew : {s : Settings} {log : List Line} {number : ℕ} → FrameLine s log number → Type 0
-BeginsAnew {s} l = begins_anew s.stamps l.at.past.newest (time_there l) ≡ true
+-- it is a message that deviates from the plan, and stands for one of the flow
+abbrev pub StandsForMessage : {s : Settings} {log : List Line} {number : ℕ} → FrameLine s log number → ℕ → Type 0
+StandsForMessage {s} l n = stands_for s.plan (sighted_behind nothing_sighted (noted_newly s l.at.past (time_there l) l.f l.packet)).deviating
+    (sighted_behind nothing_sighted (noted_newly s l.at.past (time_there l) l.f l.packet)).unit n ≡ true
 
-pub record EndsQuietSecond {s : Settings} {log : List Line} {number : ℕ} (l : FrameLine s log number) : Type 0 where
-  pub broken : breaks s.stamps l.at.past.newest (time_there l) ≡ true
-  pub on : begins_anew s.stamps l.at.past.newest (time_there l) ≡ false
+-- times begin anew just before it, or a gap ends there
+abbrev pub BeginsAnew : {s : Settings} {log : List Line} {number : ℕ} → FrameLine s log number → Type 0
+BeginsAnew {s} l = (begins_anew s.stamps l.at.past.newest (time_there l) || gap_before s l.at.past (time_there l)) ≡ true
 
 -- ---- a flow and its lines
 
@@ -88,7 +89,7 @@ pub record IsMessageAt (s : Settings) (log : List Line) (number n : ℕ) : Type 
   pub group_is : slice_get s.plan.groups.items flow.group ≡ Some group
   pub sort : is_in_stream group (is_single (pgn_of line.f.ident)) ≡ true
 
--- its pause ends at a line: this is bad, or a frame at which times begin anew, a claim that ends it, or a message that is unclear
+-- its pause ends at a line: this is bad, or a frame at which times begin anew or a gap ends, a claim that ends it, or a message that is unclear
 abbrev pub EndsPauseAt : Settings → List Line → ℕ → ℕ → Type 0
 EndsPauseAt s log number n =
     IsBadAt s log number

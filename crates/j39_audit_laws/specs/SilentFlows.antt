@@ -18,7 +18,7 @@ use Rattle.j39_audit.specs.declared.streams.FlowPause.{FlowPause}
 use Rattle.j39_audit.specs.declared.tally.Occurrences.{Occurrences}
 use Rattle.j39_audit_laws.specs.FoundForSure.{IsWrittenIn}
 use Rattle.j39_audit_laws.specs.MarkRecords.{IsTimeOf, KeepsTime}
-use Rattle.j39_audit_laws.specs.PauseLines.{CountsFor, EndsPauseAt, EndsQuietSecond, FrameLine, IsMessageAt, IsSeenOf, time_there}
+use Rattle.j39_audit_laws.specs.PauseLines.{CountsFor, EndsPauseAt, FrameLine, IsMessageAt, IsSeenOf, StandsForMessage, time_there}
 
 -- an end of the flow: its sender, or its one receiver
 abbrev pub IsEndOfFlow : FlowPlan → ℕ → Type 0
@@ -57,11 +57,11 @@ pub record IsLongSilent (s : Settings) (t : Timing) (log : List Line) (us : ℕ)
   pub still : (u : ℕ) → IsEndOfFlow flow u → IsThereStill s log us bus frame (pause.pause + slack) first last u
   pub none_between : (number : ℕ) (l : FrameLine s log number) → first < number → number < last → ¬ IsSeenOf l n
   pub unended : (number : ℕ) → first < number → number ≤ last → ¬ EndsPauseAt s log number n
-  -- behind these comes the next message, or its pause ends, or the log does; and no quiet second ends it before
+  -- behind these comes the next message, or its pause ends, or the log does; and no message comes before that stands for one of it
   pub until : ℕ
   pub from_last : last ≤ until
   pub comes : (length log ≤ until) ⊎ (IsMessageAt s log until n ⊎ EndsPauseAt s log until n)
-  pub no_quiet : (number : ℕ) (l : FrameLine s log number) → first < number → number ≤ until → ¬ EndsQuietSecond l
+  pub none_stands : (number : ℕ) (l : FrameLine s log number) → first < number → number ≤ until → ¬ StandsForMessage l n
 
 -- each such flow of a log is accused of it: by the bus, or by load alone
 abbrev pub SilentAreFound : Type 0

@@ -24,7 +24,7 @@ ghost use Rattle.j39_audit_laws.specs.KeptParts.{KeepersAreNotAccused, KeptPlans
 ghost use Rattle.j39_audit_laws.specs.KeptStreams.{SentInTimeAreNotNear, SentInTimeAreNotSilent, StreamsAreNotNear, StreamsAreNotSilent};
 ghost use Rattle.j39_audit_laws.specs.LogBounds.{IsMarkedBound, IsTimedBound, Lines};
 ghost use Rattle.j39_audit_laws.specs.OneAudit.{AuditHasOneText};
-ghost use Rattle.j39_audit_laws.specs.OwnPart.{AlwaysCan, AreItsOwn, ClaimsItsOwn, IsNotNamed, LooksAsPlanned, SentBy};
+ghost use Rattle.j39_audit_laws.specs.OwnPart.{AreItsOwn, ClaimsWhereItMay, IsNotNamed, LooksAsPlanned, SaysCannotWhereItHasTo, SentBy};
 ghost use Rattle.j39_audit_laws.specs.OwnPart.{WaitsForPlanned};
 ghost use Rattle.j39_audit_laws.specs.MarkRecords.{AreFew, IsMarkOf, KeepsTime, ShowsIdle, longest_reach};
 ghost use Rattle.j39_audit_laws.specs.Pausing.{ComesInTime, IsBoundAt, NotesTheSilent, NotesTheSilentEnd};
@@ -79,14 +79,14 @@ pub fn no_frame_is_unsure()
     ensures none { UnsureIsNone }
 {}
 
-/// Whatever others do, and however the log was cut: a unit that never says that it can't claim an address gets no
-/// line `cannot` (`cannot`), and none `address` where it claims by the plan, and only its own addresses (`address`).
-/// Frames from an address at which it alone may be have to be its own, and so have claims of its NAMEs.
+/// Whatever others do, and however the log was cut: a unit that says that it can't claim an address only where it has to,
+/// behind a smaller NAME that claimed an address of it, gets no line `cannot` (`cannot`), and none `address` where it claims
+/// by the plan, and only its own addresses, or where it has to give way one that isn't kept free (`address`). Frames from an address at which it alone may be have to be its own, and so have claims of its NAMEs.
 pub fn who_claims_by_the_plan_is_not_accused()
     ensures cannot { (s : Settings) (log : List ALine) (sent : SentBy) (u : ℕ) → AreMoving s.plan s.moving
-        → AreItsOwn s log sent u → AlwaysCan s log sent u → IsNotNamed s log Cannot u }
+        → AreItsOwn s log sent u → SaysCannotWhereItHasTo s log sent u → IsNotNamed s log Cannot u }
     ensures address { (s : Settings) (log : List ALine) (sent : SentBy) (u : ℕ) → AreMoving s.plan s.moving
-        → AreItsOwn s log sent u → ClaimsItsOwn s log sent u → IsNotNamed s log Address u }
+        → AreItsOwn s log sent u → ClaimsWhereItMay s log sent u → IsNotNamed s log Address u }
 {}
 
 /// Nor does one get a line `layout`, `no_flow` or `priority` each of whose messages with a number of one of its groups
@@ -191,8 +191,8 @@ pub fn who_keeps_a_pause_is_not_silent()
 
 /// In a log of a bus a flow with a pause is reported as silent, by the bus or by load alone, if behind a message of it none came
 /// for longer than its pause, the response time that is counted on and what clocks and times of lines may differ, and
-/// frames of its ends show that these were there. No end of its pause may come in that time, and no quiet second may end it
-/// later.
+/// frames of its ends show that these were there. No end of its pause may come in that time, and no message that deviates
+/// may stand for one of it later.
 pub fn who_is_long_silent_is_reported()
     ensures { SilentAreFound }
 {}

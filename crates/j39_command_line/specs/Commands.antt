@@ -36,9 +36,10 @@ two_values_and_flag name value other flag = with_rule (two_values name value oth
 abbrev pub option_rule : Text → Rule
 option_rule name = record (new_rule name) { long = Some name; value_names = 1 }
 
--- the audit of a log by a plan, of a part of what the bus carried, and by a logger of this error
+-- the audit of a log by a plan, of a part of what the bus carried, by a logger of this error, with gaps of so many milliseconds
 abbrev pub audit_command : App
-audit_command = with_rule (two_values_and_flag (codes "audit") (codes "PLAN") (codes "LOG") (codes "part")) (option_rule (codes "stamps"))
+audit_command = with_rule (with_rule (two_values_and_flag (codes "audit") (codes "PLAN") (codes "LOG") (codes "part")) (option_rule (codes "stamps")))
+    (option_rule (codes "quiet"))
 
 -- the words after the program's name, of which the first is a subcommand
 abbrev pub program : App

@@ -30,6 +30,10 @@ HasFlag met name flag given =
 abbrev pub are_stamps : Text → Bool
 are_stamps text = nat_lt 0 (length text) && (list_all is_ascii_digit text && nat_le (digits_value 10 text) 1000000)
 
+-- these are the digits of a number of milliseconds, which is at least one, and at most a second
+abbrev pub are_quiet : Text → Bool
+are_quiet text = nat_lt 0 (length text) && (list_all is_ascii_digit text && (nat_lt 0 (digits_value 10 text) && nat_le (digits_value 10 text) 1000))
+
 -- all frames of a log are reported, also those of groups that aren't planned
 abbrev pub are_all : Frames → Bool
 are_all All = true
@@ -43,6 +47,14 @@ stamps_in (Some text) = if are_stamps text then Some (digits_value 10 text) else
 -- the subcommand that was met has this name, and so many are given or meant
 abbrev pub HasStamps : Option (Text × List Row) → Text → ℕ → Type 0
 HasStamps met name stamps = (rows : List Row) × (met ≡ Some (name, rows)) × (stamps_in (first_of (codes "stamps") rows) ≡ Some stamps)
+
+-- how many milliseconds without a frame are a gap: by the plan unless a number is given
+abbrev pub quiet_in : Option Text → Option (Option ℕ)
+quiet_in None = Some None
+quiet_in (Some text) = if are_quiet text then Some (Some (digits_value 10 text)) else None
+
+abbrev pub HasQuiet : Option (Text × List Row) → Text → Option ℕ → Type 0
+HasQuiet met name quiet = (rows : List Row) × (met ≡ Some (name, rows)) × (quiet_in (first_of (codes "quiet") rows) ≡ Some quiet)
 
 -- the order is the subcommand that was met, with its values, or the words ask for a text of help
 abbrev pub Orders : Option (Text × List Row) → Order → Type 0
@@ -60,9 +72,9 @@ Orders met (Read plan log) =
 Orders met (Follow plan log frames) =
     HasValue met (codes "follow") (codes "PLAN") (string_bytes plan) × HasValue met (codes "follow") (codes "LOG") (string_bytes log)
     × HasFlag met (codes "follow") (codes "all") (are_all frames)
-Orders met (Audit plan log part stamps) =
+Orders met (Audit plan log part stamps quiet) =
     HasValue met (codes "audit") (codes "PLAN") (string_bytes plan) × HasValue met (codes "audit") (codes "LOG") (string_bytes log)
-    × HasFlag met (codes "audit") (codes "part") part × HasStamps met (codes "audit") stamps
+    × HasFlag met (codes "audit") (codes "part") part × HasStamps met (codes "audit") stamps × HasQuiet met (codes "audit") quiet
 Orders met (Vehicle vehicle) = HasValue met (codes "vehicle") (codes "VEHICLE") (string_bytes vehicle)
 Orders met Input = ⊥
 Orders met (Help text) = Unit {0}
@@ -79,7 +91,7 @@ IsHelp (Load plan) = ⊥
 IsHelp (Run plan schedule) = ⊥
 IsHelp (Read plan log) = ⊥
 IsHelp (Follow plan log frames) = ⊥
-IsHelp (Audit plan log part stamps) = ⊥
+IsHelp (Audit plan log part stamps quiet) = ⊥
 IsHelp (Vehicle vehicle) = ⊥
 
 -- what the words order: the input where there are none, and else what they name

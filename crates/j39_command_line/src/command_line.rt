@@ -1,8 +1,8 @@
 //! The words of the command line, read.
-ghost use Rattle.std.specs.Prelude.{ℕ, nat_le, ◌<◌, if◌then◌else◌, ◌≡◌, ◌≢◌, Err, None, true, false, [], IfOk, Some, codes, length, map, string_bytes, unwrap_or};
+ghost use Rattle.std.specs.Prelude.{ℕ, nat_le, nat_lt, ◌&&◌, ◌<◌, if◌then◌else◌, ◌≡◌, ◌≢◌, Err, None, true, false, [], IfOk, Some, codes, length, map, string_bytes, unwrap_or};
 ghost use Rattle.clap.specs.Words.{all_of, first_of, found_of, kind_of, one_of, rows_of, subcommand_of, subcommand_rows_of};
 ghost use Rattle.j39_command_line.specs.Commands.{commands};
-ghost use Rattle.j39_command_line.specs.Orders.{IsOrdered, AreRefused, AsksHelp, IsHelp, Orders, OrdersNothing, are_all, are_stamps, stamps_in};
+ghost use Rattle.j39_command_line.specs.Orders.{IsOrdered, AreRefused, AsksHelp, IsHelp, Orders, OrdersNothing, are_all, are_quiet, are_stamps, quiet_in, stamps_in};
 ghost use Rattle.j39_command_line.specs.Orders.{asks_for_text};
 ghost use Rattle.std.specs.Char.{is_ascii_digit};
 ghost use Rattle.std.specs.List.{list_all};
@@ -20,6 +20,8 @@ use std::alloc::{AllocError, Global};
 const USUAL_STAMPS: u64 = 1000;
 
 const MOST_STAMPS: u64 = 1_000_000;
+
+const MOST_QUIET: u64 = 1_000;
 
 // The value that a command asks for by this name.
 fn value(alloc: Global, values: &ArgMatches, name: &str) -> Result<String, WordsFault>
@@ -103,6 +105,29 @@ fn number_of(digits: &str) -> Option<u64>
     }
 }
 
+// A number of milliseconds, if it may be that of a gap.
+fn quiet_if(number: u64) -> Option<Option<u64>>
+    ensures { result ≡ (if nat_lt 0 number && nat_le number 1000 then Some (Some number) else None) }
+{
+    if number > 0 && number <= MOST_QUIET {
+        Some(Some(number))
+    } else {
+        None
+    }
+}
+
+// The number that digits are, if it is one of milliseconds that may be a gap.
+fn quiet_number(digits: &str) -> Option<Option<u64>>
+    requires some { 0 < length digits.now }
+    requires digits { list_all is_ascii_digit digits.now ≡ true }
+    ensures { result ≡ (if nat_lt 0 (digits_value 10 digits.now) && nat_le (digits_value 10 digits.now) 1000 then Some (Some (digits_value 10 digits.now)) else None) }
+{
+    match number_of(digits) {
+        Some(number) => quiet_if(number),
+        None => None,
+    }
+}
+
 // The number that a text is, if it is one of digits, and at most that of a second's microseconds.
 fn stamps_of(text: &str) -> Option<u64>
     ensures { result ≡ (if are_stamps text.now then Some (digits_value 10 text.now) else None) }
@@ -124,6 +149,27 @@ fn stamps_in(values: &ArgMatches) -> Option<u64>
     }
 }
 
+// The number that a text is, if it is one of milliseconds that may be a gap.
+fn quiet_of(text: &str) -> Option<Option<u64>>
+    ensures { result ≡ (if are_quiet text.now then Some (Some (digits_value 10 text.now)) else None) }
+{
+    if text.is_empty() || !are_digits(text.as_bytes()) {
+        None
+    } else {
+        quiet_number(text)
+    }
+}
+
+// How many milliseconds without a frame are a gap, where that is given; nothing where what is given is no such number.
+fn quiet_in(values: &ArgMatches) -> Option<Option<u64>>
+    ensures { result ≡ quiet_in (first_of (codes "quiet") (rows_of (found_of values.now))) }
+{
+    match values.get_str("quiet") {
+        Some(text) => quiet_of(text),
+        None => Some(None),
+    }
+}
+
 // What `audit` orders of a plan.
 fn audit(alloc: Global, plan: String, values: &ArgMatches) -> Result<Order, WordsFault>
     requires { first_of (codes "PLAN") (rows_of (found_of values.now)) ≡ Some (string_bytes plan) }
@@ -132,8 +178,11 @@ fn audit(alloc: Global, plan: String, values: &ArgMatches) -> Result<Order, Word
     ensures refused { result ≡ Err Bad → OrdersNothing (Some (codes "audit", rows_of (found_of values.now))) }
 {
     let log = value(alloc, values, "LOG")?;
+    let Some(quiet) = quiet_in(values) else {
+        return Err(WordsFault::Bad);
+    };
     match stamps_in(values) {
-        Some(stamps) => Ok(Order::Audit(plan, log, is_given(values, "part"), stamps)),
+        Some(stamps) => Ok(Order::Audit(plan, log, is_given(values, "part"), stamps, quiet)),
         None => Err(WordsFault::Bad),
     }
 }

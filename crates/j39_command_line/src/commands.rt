@@ -165,6 +165,12 @@ fn audit<'a>(alloc: Global) -> Result<Command<'a>, AllocError>
         "stamps",
         "US",
         "By how many microseconds the time of a line may differ from the end of its frame: 0 to 1000000, 1000 without it",
+    ))?
+    .arg(option(
+        alloc,
+        "quiet",
+        "MS",
+        "How many milliseconds without a frame end what is waited for: 1 to 1000, without it by the pauses of the plan",
     ))
 }
 

@@ -52,9 +52,9 @@ pub enum Order {
     /// `follow PLAN LOG`: who sent what in the log, by its own claims, the files of these names; with `--all` of all frames.
     Follow(String, String, Frames),
     /// `audit PLAN LOG`: which premises of the plan the log refutes, the files of these names; with `--part`, which is
-    /// true then, of a log in which frames may be missing; and with `--stamps US` by a logger of this error in
-    /// microseconds.
-    Audit(String, String, bool, u64),
+    /// true then, of a log in which frames may be missing; with `--stamps US` by a logger of this error in microseconds;
+    /// and with `--quiet MS`, which may be absent, so many milliseconds without a frame are a gap.
+    Audit(String, String, bool, u64, Option<u64>),
     /// `vehicle VEHICLE`: what is wrong with the vehicle of several buses of the file of this name.
     Vehicle(String),
     /// The help of the program or of a command, or the program's version: this text.

@@ -34,15 +34,16 @@ def main(words: list[str] | None = None) -> int:
     parser.add_argument("log", metavar="LOG", nargs="?", help="of audit the name of a log")
     parser.add_argument("--part", action="store_true", help="the log lacks frames of the bus")
     parser.add_argument("--stamps", metavar="US", help="by how many us the times of a log differ at most (1000)")
+    parser.add_argument("--quiet", metavar="MS", help="how many ms without a frame are a gap (by the plan's pauses)")
     program.variant_option(parser)
     given = parser.parse_args(words)
-    if (given.command == "audit") != (given.log is not None) or given.command != "audit" and (given.part or given.stamps):
-        parser.error("audit alone takes a LOG, --part and --stamps")
+    if (given.command == "audit") != (given.log is not None) or given.command != "audit" and (given.part or given.stamps or given.quiet):
+        parser.error("audit alone takes a LOG, --part, --stamps and --quiet")
     if given.command == "vehicle":
         refuse_variant(given.plan, given.variant)
         return of_vehicle(given.plan)
     with opened(given.plan, given.variant) as plan:
-        options = ["--part"] * given.part + (["--stamps", given.stamps] if given.stamps else [])
+        options = ["--part"] * given.part + [word for name, number in (("--stamps", given.stamps), ("--quiet", given.quiet)) if number for word in (name, number)]
         status, answer = program.call([given.command, *options, "--", plan, *([given.log] if given.log else [])])
         if lines := lines_of(answer):
             print(json.dumps(audit_object(given.plan, given.log, status, lines), indent=1))

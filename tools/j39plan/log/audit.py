@@ -18,7 +18,7 @@ WORDS = {
     "stranger": Word("a NAME of no unit claims A, and the plan has no `strangers`", "whose the NAME is"),
     "nobody": Word("a frame from an address at which no unit may be", "which unit has this source address"),
     "address": Word("U claims an address that isn't its own, or claims though `claims = false`", "which addresses it may take"),
-    "cannot": Word("U says that it can't claim an address", "why"),
+    "cannot": Word("U says that it can't claim an address, and needn't", "why"),
     "deaf": Word("U is asked for claims, and goes on to send without one", "how it answers requests for PGN 60928"),
     "layout": Word("a message of G's number, with another length or none of its `when`", "which layout it has"),
     "no_flow": Word("a message of G that no flow of U brings there", "what it sends, and to whom"),

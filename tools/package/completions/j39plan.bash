@@ -23,10 +23,10 @@ _j39plan() {
   COMPREPLY=()
   [ "${COMP_WORDS[1]} ${COMP_WORDS[2]}" = 'follow --all' ] && place=$((place - 1))
   if [ "${COMP_WORDS[1]}" = audit ]; then
-    # Options stand before the plan, --stamps with a number behind it.
+    # Options stand before the plan, --stamps and --quiet with a number behind them.
     local at=2
-    while [ "$at" -lt "$COMP_CWORD" ] && [[ ${COMP_WORDS[at]} =~ ^--(part|stamps)$ ]]; do
-      [ "${COMP_WORDS[at]}" = --stamps ] && at=$((at + 1))
+    while [ "$at" -lt "$COMP_CWORD" ] && [[ ${COMP_WORDS[at]} =~ ^--(part|stamps|quiet)$ ]]; do
+      [ "${COMP_WORDS[at]}" = --part ] || at=$((at + 1))
       at=$((at + 1))
     done
     place=$((COMP_CWORD - at + 2))
@@ -36,7 +36,7 @@ _j39plan() {
   elif [ "${COMP_WORDS[1]} $COMP_CWORD" = 'follow 2' ] && [[ $word == -* ]]; then
     COMPREPLY=(--all)
   elif [ "${COMP_WORDS[1]} $place" = 'audit 2' ] && [[ $word == -* ]]; then
-    mapfile -t COMPREPLY < <(compgen -W '--part --stamps' -- "$word")
+    mapfile -t COMPREPLY < <(compgen -W '--part --stamps --quiet' -- "$word")
   elif [[ ${COMP_WORDS[1]} =~ ^(show|variant|check|addresses|load|run|read|follow|audit|vehicle)$ ]]; then
     case "$place ${COMP_WORDS[1]}" in
       '3 run') _j39plan_files "$word" schedule ;;

@@ -19,6 +19,7 @@ complete -c j39plan -n '__fish_seen_subcommand_from show variant check addresses
 complete -c j39plan -n '__fish_seen_subcommand_from follow' -l all -d 'show each frame of which there is no other line, too'
 complete -c j39plan -n '__fish_seen_subcommand_from audit' -l part -d 'the log may lack frames of the bus'
 complete -c j39plan -n '__fish_seen_subcommand_from audit' -l stamps -x -d 'by how many us times differ'
+complete -c j39plan -n '__fish_seen_subcommand_from audit' -l quiet -x -d 'how many ms without a frame are a gap'
 
 # The tools, as words of j39plan, behind which is offered what is offered behind their own names.
 set -g __j39plan_tools where answer startup dbc2plan log2plan plan2dbc join forwards compare mend against drift fleet table report signals codes plot tolog cut restbus probe lsp check-plans
@@ -168,6 +169,7 @@ complete -c j39plan-against -l part -d 'the log lacks frames of the bus'
 complete -c j39plan-against -l ask -d 'what to ask the supplier, below deviations'
 complete -c j39plan-answer -l part -d 'of an audit: the log lacks frames of the bus'
 complete -c j39plan-answer -l stamps -x -d 'of an audit: by how many us times differ'
+complete -c j39plan-answer -l quiet -x -d 'of an audit: how many ms without a frame are a gap'
 complete -c j39plan-drift -l share -x -d 'by how much numbers may differ, as 10%'
 complete -c j39plan-drift -l interface -x -d 'the interface that is read, as can1'
 complete -c j39plan-drift -l json -d 'as a JSON object'

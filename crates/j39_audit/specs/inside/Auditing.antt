@@ -53,11 +53,12 @@ all_seen word plan look = each_below (seen_at word plan look) (seen_places word 
 
 -- ---- a log
 
--- the claims, what was noted, the newest time, what times report, who is asked and the planned broadcasts are these
+-- the claims, what was noted, the newest time, that of the frame before, what times report, who is asked and the planned broadcasts are these
 pub record AccordsWith (log : AuditLog) (past : AuditPast) : Type 0 where
   pub knows : KnowsClaims (settings_of log.basis) log.known past.claims
   pub counted : AreCounted log.tally past.noted
   pub newest_is : log.newest ≡ past.newest
+  pub before_is : log.before ≡ past.before
   pub moments : RecallsMoments log.moments past.moments
   pub by_load : RecallsMoments log.by_load past.by_load
   pub asking : RecallsAsking (settings_of log.basis) log.asking past.asking
@@ -90,12 +91,12 @@ noted_unit noted = (sighted_behind nothing_sighted noted).unit
 
 -- what it is behind a frame of this time and line, of which this was noted, at which these pauses end, and which announces this
 abbrev pub times_behind : Settings → Knowledge → Bool → Bool → Option ℕ → Frame → ℕ → List Noted → Ending → Option Announcement → AuditPast → AuditPast
-times_behind s k broken anew time f line noted ending announced past = record past {
+times_behind s k gap anew time f line noted ending announced past = record past {
   moments = with_packet_stream s time line (packet_with s.plan.timing (noted_unit noted) f past.broadcasts)
-      (moments_behind s broken anew time f line noted ending past.moments);
-  by_load = moments_behind (judged_by_load s) broken anew time f line noted ending past.by_load;
-  asking = with_sign_of s.plan.timing (noted_unit noted) (moments_behind s broken anew time f line noted ending past.moments).since past.asking;
-  broadcasts = broadcasts_behind s k (noted_unit noted) f announced time (moments_behind s broken anew time f line noted ending past.moments).since line
+      (moments_behind s gap anew time f line noted ending past.moments);
+  by_load = moments_behind (judged_by_load s) gap anew time f line noted ending past.by_load;
+  asking = with_sign_of s.plan.timing (noted_unit noted) (moments_behind s gap anew time f line noted ending past.moments).since past.asking;
+  broadcasts = broadcasts_behind s k (noted_unit noted) f announced time (moments_behind s gap anew time f line noted ending past.moments).since line
       past.broadcasts;
 }
 

@@ -1,5 +1,5 @@
 -- What an audit keeps of what came so far.
-use Rattle.std.specs.Prelude.{◌≡◌, ℕ, ◌++◌, ◌^◌, ◌<◌, Bool, false, IfSome, List, length, slice_index_or, unwrap_or, Option, None}
+use Rattle.std.specs.Prelude.{◌≡◌, ℕ, ◌+◌, ◌*◌, ◌++◌, ◌^◌, ◌<◌, ◌&&◌, nat_lt, Bool, false, IfSome, List, length, slice_index_or, unwrap_or, Option, None}
 use Rattle.std.specs.HashMap.{get}
 use Rattle.std.specs.Option.{option_copied}
 use Rattle.j39_network.specs.declared.plan.Plan.{Plan}
@@ -35,6 +35,7 @@ settings_of basis = record {
   moving = basis.moving.now;
   part = basis.part;
   stamps = basis.stamps;
+  quiet = basis.quiet;
   responses = basis.responses.now;
   bound = basis.bound;
 }
@@ -132,15 +133,29 @@ last_in known u = slice_index_or known.last.items u None
 abbrev pub taken_in : Known → ℕ → Bool
 taken_in known a = slice_index_or known.taken.items a false
 
+abbrev pub least_in : Known → ℕ → Option ℕ
+least_in known a = slice_index_or known.least.items a None
+
+-- of each unit a row of addresses
+abbrev pub row_bytes : ℕ
+row_bytes = 256
+
+abbrev pub claimed_in : Known → ℕ → ℕ → Bool
+claimed_in known u a = nat_lt a row_bytes && slice_index_or known.claimed.items (u * row_bytes + a) false
+
 abbrev pub known_by : Known → Knowledge
-known_by known = record { last = last_in known; taken = taken_in known }
+known_by known = record { last = last_in known; taken = taken_in known; least = least_in known; claimed = claimed_in known }
 
 -- what these claims report is known
 pub record KnowsClaims (s : Settings) (known : Known) (claims : HeardClaims) : Type 0 where
   pub last_size : length known.last.items ≡ length s.plan.units.items
   pub taken_size : length known.taken.items ≡ 256
+  pub least_size : length known.least.items ≡ 256
+  pub claimed_size : length known.claimed.items ≡ length s.plan.units.items * row_bytes
   pub last : (u : ℕ) → last_in known u ≡ (knowledge s claims).last u
   pub taken : (a : ℕ) → taken_in known a ≡ (knowledge s claims).taken a
+  pub least : (a : ℕ) → least_in known a ≡ (knowledge s claims).least a
+  pub claimed : (u a : ℕ) → claimed_in known u a ≡ (knowledge s claims).claimed u a
 
 abbrev pub IsWithinUnits : Plan → SureSender → Type 0
 IsWithinUnits plan (OfUnit u) = u < length plan.units.items

@@ -17,5 +17,5 @@ returns-in-Follow g c = λ known opened. rw c.in-Follow.is (log_ends known _ ope
 
 pub returns-in-Audit : goal.returns-in-Audit
 returns-in-Audit g c = λ known opened.
-    rw c.in-Audit.is (audit_ends c.args.plan.now c.in-Audit.part c.in-Audit.stamps known _ opened (λ failed. failed) c.audit_planned.result
+    rw c.in-Audit.is (audit_ends c.args.plan.now c.in-Audit.part c.in-Audit.stamps c.in-Audit.quiet known _ opened (λ failed. failed) c.audit_planned.result
     c.audit_planned.ensures.hindered c.audit_planned.ensures.audited)

@@ -20,7 +20,7 @@ returns g c =
     let read = c.in_ok-read_log.ensures.read s begun.nothing in
     read_and_put read.input
     (λ text verdict is.
-    let audit = is_audit_of s t begun.settings c.requires.moving c.requires.responses c.requires.bus c.read_log.new.log read.input text verdict
+    let audit = is_audit_of s t c.args.quiet begun.settings c.requires.moving c.requires.responses c.requires.bus c.requires.quiet c.read_log.new.log read.input text verdict
     read.ended is in
     (audit, (verdict, audit)))
     c.put_report.result read.consumed read.end c.in_ok-read_log.ensures.limits (c.in_ok-read_log.ensures.calm (λ e. cc e)) c.put_report.ensures

@@ -18,6 +18,7 @@ returns c =
           knows = old.follows.knows;
           counted = old.follows.counted;
           newest_is = old.follows.newest_is;
+          before_is = old.follows.before_is;
           moments = subst (λ (t : Settings). RecallsMoments c.end_all.new.self (all_pauses_ended t audited.past.moments)) audited.settings_are
               (c.in_ok-end_all.ensures.moments audited.past.moments old.follows.moments);
           by_load = subst (λ (t : Settings). RecallsMoments c.end_all-2.new.self (all_pauses_ended t audited.past.by_load))

@@ -15,6 +15,7 @@ returns-clause-nothing c =
           knows = c.in_ok-known.ensures;
           counted = c.new-6.ensures;
           newest_is = refl;
+          before_is = refl;
           moments = c.in_ok-moments.ensures.moments;
           by_load = c.in_ok-by_load.ensures.moments;
           asking = c.in_ok-asking.ensures;

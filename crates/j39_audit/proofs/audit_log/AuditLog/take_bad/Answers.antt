@@ -13,6 +13,7 @@ returns-clause-fault c =
         knows = recalls.follows.knows;
         counted = recalls.follows.counted;
         newest_is = recalls.follows.newest_is;
+        before_is = recalls.follows.before_is;
         moments = c.in_ok-pass_bad.ensures.moments past.moments recalls.follows.moments;
         by_load = subst (λ (t : Settings). RecallsMoments c.pass_bad-2.new.self (behind_bad t past.by_load)) c.by_load.ensures
             (passed past.by_load recalls.follows.by_load);

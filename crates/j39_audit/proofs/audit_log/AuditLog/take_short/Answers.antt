@@ -20,6 +20,7 @@ returns-clause-fault c = λ past recalls.
             (subst (λ (b : Bool). AreCounted new (past.noted ++ noted_if b (record { mark = c.make_mark.result; line = number; detail = 0 }))) frames
             (c.in_ok-note_if.ensures.counts past.noted recalls.follows.counted)));
         newest_is = recalls.follows.newest_is;
+        before_is = recalls.follows.before_is;
         moments = c.pass_over.ensures.moments past.moments recalls.follows.moments;
         by_load = c.pass_over-2.ensures.moments past.by_load recalls.follows.by_load;
         asking = recalls.follows.asking;

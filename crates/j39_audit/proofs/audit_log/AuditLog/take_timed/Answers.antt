@@ -1,15 +1,16 @@
-use Rattle.std.proofs.Common.{◌≡◌, ◌++◌, ℕ, Bool, List, Option, Some, None, sym, ap, subst, ◌∙◌}
+use Rattle.std.proofs.Common.{◌≡◌, ◌++◌, ℕ, Bool, List, Option, Some, None, refl, sym, ap, subst, ◌∙◌}
 use Rattle.std.specs.Prelude.{IfNone, IfSome}
 use Rattle.j39_id.specs.declared.frame.Frame.{Frame}
 use Rattle.j39_log.specs.LogFrames.{IsPacket}
 use Rattle.j39_tp.specs.Packets.{InRange}
 use Rattle.j39_tp.specs.declared.packet.Packet.{Packet}
 use Rattle.j39_audit.specs.Asking.{asked_behind, asking_behind}
-use Rattle.j39_audit.specs.AuditText.{AuditPast, claims_before, claims_with_frame, past_with_frame}
-use Rattle.j39_audit.specs.BegunBroadcasts.{announcement_in, broadcasts_before}
+use Rattle.j39_audit.specs.AuditText.{AuditPast, claims_before, claims_with_frame, gap_before, past_with_frame}
+use Rattle.j39_audit.specs.BegunBroadcasts.{broadcasts_before}
 use Rattle.j39_audit.specs.Breaks.{breaks, newest_behind}
 use Rattle.j39_audit.specs.Claiming.{Knowledge, broken_off, knowledge}
 use Rattle.j39_audit.specs.Counting.{Noted}
+use Rattle.j39_audit.specs.Gaps.{ends_gap}
 use Rattle.j39_audit.specs.Looking.{IsPacketOf, break_noted, frame_noted}
 use Rattle.j39_audit.specs.MessageStreams.{sighted_behind}
 use Rattle.j39_audit.specs.Moments.{begins_anew}
@@ -40,6 +41,9 @@ returns-clause-frame c = λ past named accords number.
     c.breaks-broken.ensures ∙ ap (λ (n : Option ℕ). breaks s.stamps n time) accords.newest_is in
     let anew : c.begins_anew-anew.result ≡ begins_anew s.stamps past.newest time =
     c.begins_anew-anew.ensures ∙ ap (λ (n : Option ℕ). begins_anew s.stamps n time) accords.newest_is in
+    let gap : c.ends_gap-gap.result ≡ gap_before s past time = c.ends_gap-gap.ensures
+    ∙ ap (λ (n : Option ℕ). ends_gap s.stamps s.quiet n c.args.self.now.before time) accords.newest_is
+    ∙ ap (λ (b : Option ℕ). ends_gap s.stamps s.quiet past.newest b time) accords.before_is in
     let before = claims_before s past time in
     let known = subst (λ (b : Bool). KnowsClaims s c.take_break.new.known (broken_off b past.claims)) broken
     (c.take_break.ensures.known past.claims accords.knows) in
@@ -61,7 +65,7 @@ returns-clause-frame c = λ past named accords number.
     } in
     let times : Knowledge → Knowledge → Bool → Bool → Ending → Option Announcement → ℕ → AuditPast = λ k l b a e x n.
     times_behind s l b a time f n (lines n) e x (there k b a e n) in
-    let took_times = c.in_ok-take_times.ensures.times (there _ c.breaks-broken.result c.begins_anew-anew.result c.ending_of-ending.result number_now) (lines number_now)
+    let took_times = c.in_ok-take_times.ensures.times (there _ c.ends_gap-gap.result c.begins_anew-anew.result c.ending_of-ending.result number_now) (lines number_now)
     (record {
       moments = accords.moments;
       by_load = accords.by_load;
@@ -69,7 +73,7 @@ returns-clause-frame c = λ past named accords number.
       broadcasts = c.come_to.ensures past.broadcasts accords.broadcasts;
     }) sights unclear in
     let are = subst (λ (p : AuditPast). RecallsTimes s c.take_times.new.self p)
-    (λ i. times (same_known i) (known_behind i) (broken i) (anew i) (ending i) (c.announcement_in-announced.ensures i) (number i)) took_times in
+    (λ i. times (same_known i) (known_behind i) (gap i) (anew i) (ending i) (c.announcement_in-announced.ensures i) (number i)) took_times in
     subst (λ (log : AuditLog). TakesFrame log past time named f) (sym c.take_times.ensures.kept)
     (record {
       packet = packet;
@@ -79,6 +83,7 @@ returns-clause-frame c = λ past named accords number.
         counted = subst (λ (n : ℕ). AreCounted c.take_frame.new.tally (past.noted ++ lines n)) number
             (both.counts past.noted (counted_on c.args.self.now.tally clean past.noted c.look_at_next.ensures.found accords.counted));
         newest_is = c.newest_behind-self.ensures ∙ ap (λ (n : Option ℕ). newest_behind s.stamps n time) accords.newest_is;
+        before_is = refl;
         moments = are.moments;
         by_load = are.by_load;
         asking = are.asking;

@@ -16,7 +16,7 @@ returns-clause-times c = λ past noted before sights unclear.
     let line = old.number in
     let here = c.as_slice.ensures.value ∙ unclear in
     let unit : old.tally.sighting.unit ≡ noted_unit noted = ap (λ (w : Sighting). w.unit) sights in
-    let timed = moments_behind s c.args.broken c.args.anew c.args.time f line noted c.args.ending past.moments in
+    let timed = moments_behind s c.args.gap c.args.anew c.args.time f line noted c.args.ending past.moments in
     let looked = c.in_ok-look.ensures.moments past.moments noted before.moments sights here in
     let packed = c.take_packet.new.moments in
     let begun = c.take_packet.new.broadcasts in
@@ -24,7 +24,7 @@ returns-clause-times c = λ past noted before sights unclear.
       moments = subst (λ (u : Option ℕ). RecallsMoments packed (with_packet_stream s c.args.time line (packet_with s.plan.timing u f past.broadcasts) timed)) unit
           (c.in_ok-take_packet.ensures.moments timed past.broadcasts looked before.broadcasts);
       by_load = subst (λ (t : Settings). RecallsMoments c.look-2.new.self
-          (moments_behind t c.args.broken c.args.anew c.args.time f line noted c.args.ending past.by_load)) c.by_load.ensures
+          (moments_behind t c.args.gap c.args.anew c.args.time f line noted c.args.ending past.by_load)) c.by_load.ensures
           (c.in_ok-look-2.ensures.moments past.by_load noted before.by_load sights here);
       asking = subst (λ (u : Option ℕ). RecallsAsking s c.take_sign.new.self (with_sign_of s.plan.timing u timed.since past.asking)) unit
           (subst (λ (q : Option ℕ). RecallsAsking s c.take_sign.new.self (with_sign_of s.plan.timing old.tally.sighting.unit q past.asking)) looked.since

@@ -9,8 +9,8 @@ returns-clause-moments c = λ m recalls.
     record {
       before = refl;
       since = c.since_behind-self.ensures.value
-          ∙ ap (λ (b : Option ℕ). since_behind s c.args.timing c.args.broken c.args.bytes c.args.time b c.args.self.now.since) recalls.before
-          ∙ ap (λ (i : Option ℕ). since_behind s c.args.timing c.args.broken c.args.bytes c.args.time m.before i) recalls.since;
+          ∙ ap (λ (b : Option ℕ). since_behind s c.args.timing c.args.gap c.args.bytes c.args.time b c.args.self.now.since) recalls.before
+          ∙ ap (λ (i : Option ℕ). since_behind s c.args.timing c.args.gap c.args.bytes c.args.time m.before i) recalls.since;
       earliest = recalls.earliest;
       counted = recalls.counted;
       pauses = record { newest = recalls.pauses.newest; last = recalls.pauses.last };

@@ -1,5 +1,5 @@
 use Rattle.std.proofs.Common.{◌≡◌, ℕ, false, length, slice_index_or}
-use Rattle.j39_audit.proofs.known.untaken.Given as goal
+use Rattle.j39_audit.proofs.known.none_set.Given as goal
 
 abbrev pub invariant-loop-address : goal.invariant-loop-address
 invariant-loop-address l = record {
