@@ -16,109 +16,13 @@ import re
 import subprocess
 import sys
 import tempfile
-from dataclasses import dataclass, field
 from pathlib import Path
-from typing import NamedTuple
+
+sys.dont_write_bytecode = True
+from audit_plans import ALL, CLAIM, CLAIMS_ASKED, FRAME_BYTES, NULL, PACKETS, REQUEST, SECOND, TRANSPORT, Flow, Frame, Group, Line, Plan, Unit
+from audit_reference import Reference
 
 PROGRAM = os.environ.get("J39PLAN", str(Path(__file__).resolve().parent.parent / "j39plan"))
-CLAIM, REQUEST, TRANSPORT, PACKETS = 60928, 59904, 60416, 60160
-ALL, NULL, POOL = 255, 254, range(128, 248)
-BIT, SECOND = 4, 1_000_000
-FRAME_BYTES, LONGEST = 8, 1785
-CLAIMS_ASKED, LONGEST_ANSWER_MS = bytes([0x00, 0xEE, 0x00]), 250
-GAP_MS, LONGEST_GAP_MS, PACKET_BYTES = 50, 200, 7
-LEAST_QUIET_MS, MOST_QUIET_MS = 100, 1000
-# What bounds moments: idle bits of the bus, and response times.
-BY_BUS, BY_LOAD = "", "_or_late"
-
-
-class Unit(NamedTuple):
-    label: str
-    address: int
-    identity: int
-    is_arbitrary: bool = False
-    moves: bool = False
-    claims: bool = True
-
-    def name(self) -> int:
-        return self.identity | self.is_arbitrary << 63
-
-
-class Group(NamedTuple):
-    label: str
-    pgn: int
-    priority: int
-    length: int
-    most: int
-
-
-class Flow(NamedTuple):
-    """A flow by the places of its group and its units, to all where `to` is None. Times are in milliseconds."""
-
-    group: int
-    sender: int
-    to: int | None
-    period: int
-    pause: int | None
-    jitter: int = 0
-
-
-class Plan(NamedTuple):
-    units: list[Unit]
-    groups: list[Group]
-    flows: list[Flow]
-    drift: int
-    errors: tuple[int, int] | None
-
-    def receiver(self, flow: Flow) -> str:
-        return "all" if flow.to is None else self.units[flow.to].label
-
-    def toml(self) -> str:
-        lines = ["version = 4", "[timing]", "bitrate = 250000", "unplanned = 0"]
-        lines += [f"drift = {self.drift}"] if self.drift else []
-        lines += [f"errors = {{ count = {self.errors[0]}, every = {self.errors[1]} }}"] if self.errors else []
-        for unit in self.units:
-            arbitrary = ", arbitrary = true" if unit.is_arbitrary else ""
-            lines += ["[[unit]]", f'label = "{unit.label}"', f"address = {unit.address}", f"name = {{ identity = {unit.identity}{arbitrary} }}"]
-            lines += [] if unit.claims else ["claims = false"]
-        for group in self.groups:
-            lines += ["[[group]]", f'label = "{group.label}"', f"pgn = {group.pgn}", f"priority = {group.priority}", f"length = {group.length}"]
-            lines += [f"most = {group.most}"] if group.most != group.length else []
-        for flow in self.flows:
-            lines += ["[[flow]]", f'group = "{self.groups[flow.group].label}"', f'from = "{self.units[flow.sender].label}"']
-            lines += [f'to = "{self.receiver(flow)}"', f"period = {flow.period}", f"jitter = {flow.jitter}"]
-            lines += [f"pause = {flow.pause}"] if flow.pause else []
-        return "\n".join(lines) + "\n"
-
-
-class Frame(NamedTuple):
-    """A frame with its time in microseconds, None where the line has none."""
-
-    time: int | None
-    priority: int
-    pgn: int
-    to: int
-    source: int
-    data: bytes
-
-    def is_broadcast(self) -> bool:
-        return self.pgn >> 8 & 0xFF >= 240
-
-    def text(self) -> str:
-        identifier = self.priority << 26 | self.pgn << 8 | (0 if self.is_broadcast() else self.to << 8) | self.source
-        time = "" if self.time is None else f"({self.time // SECOND}.{self.time % SECOND:06d}) "
-        return f"{time}can0 {identifier:08X}#{self.data.hex().upper()}"
-
-
-# A line is a frame, or a text with what it is: bad, skipped or empty.
-Line = Frame | tuple[str, str]
-
-
-def is_announcement(frame: Frame) -> bool:
-    """Whether a frame of the transport protocol announces a message to all."""
-    data = frame.data
-    size = data[1] | data[2] << 8
-    return FRAME_BYTES < size <= LONGEST and data[3] == whole(size, PACKET_BYTES) and (data[0], data[4], frame.to) == (0x20, ALL, ALL)
 
 
 def random_plan(dice: random.Random) -> Plan:
@@ -170,317 +74,16 @@ def random_log(dice: random.Random, plan: Plan) -> list[Line]:
         at += dice.choice([1_000_001, 2_000_000, 999_999, 100_000, 100_001, 30_001]) if odd < 0.03 else -dice.choice([3000, 100_000, 2_500_000]) if odd > 0.985 else 0
         at = max(at, 0)
         lines.append(random_line(dice, plan, at))
+        lines += copies(dice, lines[-1])
     return lines
 
 
-def whole(value: int, parts: int) -> int:
-    """A quotient, rounded up."""
-    return -(-value // parts)
-
-
-@dataclass
-class Addresses:
-    """Who may be where, by the claims so far: each with its unit, None of a NAME of no unit. Those of units that may move are forgotten at a break."""
-
-    plan: Plan
-    is_part: bool
-    claims: list[tuple[int | None, int]] = field(default_factory=list)
-    recent: list[tuple[int | None, int]] = field(default_factory=list)
-    names: list[tuple[int, int]] = field(default_factory=list)
-
-    def last(self, unit: int) -> int | None:
-        claims = [] if self.is_part else self.recent if self.plan.units[unit].moves else self.claims
-        return next((address for other, address in reversed(claims) if other == unit), None)
-
-    def is_taken(self, address: int) -> bool:
-        return address < NULL and (None, address) in self.claims
-
-    def is_own(self, unit: int, address: int) -> bool:
-        return self.plan.units[unit].address == address or (self.plan.units[unit].moves and address in POOL)
-
-    def may_be(self, unit: int, address: int) -> bool:
-        last = self.last(unit)
-        return self.is_own(unit, address) if last is None else last == address
-
-    def gives_way(self, unit: int) -> bool:
-        """Whether a smaller NAME than the unit's claimed an address of it, or one that it claimed too."""
-        lost = {source for name, source in self.names if name < self.plan.units[unit].name() and source < NULL}
-        return self.plan.units[unit].claims and any(self.is_own(unit, address) or (unit, address) in self.claims for address in lost)
-
-    def deviation(self, unit: int, address: int) -> str | None:
-        """How the next claim of a unit deviates."""
-        may_choose, has_to = self.plan.units[unit].is_arbitrary, self.gives_way(unit)
-        if address == NULL:
-            return None if has_to and not may_choose else "cannot"
-        is_right = self.is_own(unit, address) and self.plan.units[unit].claims
-        return None if is_right or (has_to and may_choose and address in POOL) else "address"
-
-    def sender(self, address: int) -> int | None:
-        found = [unit for unit in range(len(self.plan.units)) if self.may_be(unit, address)]
-        return found[0] if len(found) == 1 and not self.is_taken(address) else None
-
-
-class Reference:
-    """What is told of the flows and units of a plan by a log, whose lines' times may differ by so many microseconds."""
-
-    def __init__(self, plan: Plan, is_part: bool, stamps: int, quiet: int | None, responses: dict[int, int]) -> None:
-        self.plan, self.is_part, self.stamps, self.responses = plan, is_part, stamps, responses
-        pauses = [it.pause for it in plan.flows if it.pause and plan.groups[it.group].most <= FRAME_BYTES]
-        usual = min(MOST_QUIET_MS, max(LEAST_QUIET_MS, 4 * min(pauses))) if pauses else MOST_QUIET_MS
-        self.gap = 1000 * (usual if quiet is None else quiet)
-        self.last: int | None = None  # the time of the frame before
-        self.places: dict[int, int] = {}  # where a unit first claimed an address that isn't its own
-        self.addresses = Addresses(plan, is_part)
-        self.told: dict[tuple[str, int], list[tuple[int, int]]] = {}
-        self.greatest: int | None = None  # the greatest time since times began
-        self.before: int | None = None  # the time of the line before, where it is a frame
-        self.idle: int | None = None
-        # By the bus and by load: the earliest moment of the newest message of a stream; of a flow the latest one, and its line.
-        self.earliest: dict[tuple[str, int], int | None] = {}
-        self.latest: dict[tuple[str, int], tuple[int, int]] = {}
-        self.shown: dict[int, tuple[int, int | None, int]] = {}  # the line of the last frame of a unit, its idle mark, and its time
-        self.begun: dict[int, tuple[int, int, int]] = {}  # of a unit's planned broadcast the packets left, and the latest end and the line of the frame before
-        self.asked: dict[int, tuple[int, int]] = {}  # when the request for claims to a unit ended at the latest, and its line
-
-    def longest(self, ms: int) -> int:
-        return whole(1001 * ms * (SECOND + self.plan.drift), SECOND)
-
-    def shortest(self, ms: int) -> int:
-        return 999 * ms * (SECOND - self.plan.drift) // SECOND
-
-    def jitter(self, flow: Flow) -> int:
-        return self.longest(flow.jitter + (0 if self.plan.groups[flow.group].most <= FRAME_BYTES else flow.period))
-
-    def pause(self, flow: Flow) -> int | None:
-        """How long the pause is of a flow that is judged."""
-        group, ends = self.plan.groups[flow.group], [flow.sender] + ([] if flow.to is None else [flow.to])
-        is_judged = not self.is_part and group.most <= FRAME_BYTES and all(self.plan.units[end].claims for end in ends)
-        return self.longest(flow.pause) if flow.pause and is_judged else None
-
-    def lower(self, bound: str, place: int, idle: int | None, time: int) -> int | None:
-        """No message of a flow had its moment before this, if it comes at this idle mark, or at this time."""
-        if bound == BY_BUS:
-            return None if idle is None else idle - self.jitter(self.plan.flows[place])
-        response = self.responses.get(place)
-        return None if response is None else time - self.stamps - (response + response // 1000 + 1)
-
-    def tell(self, word: str, place: int, line: int, by: int) -> None:
-        self.told.setdefault((word, place), []).append((line, by))
-
-    # ---- ends of pauses
-
-    def end(self, place: int) -> None:
-        """The pause of a flow ends: it is looked at by the last frame of its ends, of which the earlier one counts."""
-        flow = self.plan.flows[place]
-        pause = self.pause(flow)
-        ends = [self.shown.get(end) for end in (flow.sender, flow.to) if end is not None]
-        there = [end for end in ends if end is not None]
-        for bound in (BY_BUS, BY_LOAD):
-            if (bound, place) not in self.latest or pause is None:
-                continue
-            moment, line = self.latest.pop((bound, place))
-            if len(there) < len(ends):
-                continue
-            at, idle, time = min(there, key=lambda it: it[0])
-            lower = self.lower(bound, place, idle, time)
-            if at > line and lower is not None and lower > moment + pause:
-                self.tell(f"silent{bound} flow", place, line, lower - moment - pause)
-
-    def end_all(self) -> None:
-        for place in range(len(self.plan.flows)):
-            self.end(place)
-        self.forget()
-
-    def forget(self) -> None:
-        self.latest, self.shown, self.begun = {}, {}, {}
-
-    def drop(self, sender: int, frame: Frame) -> None:
-        """A message that no flow brings deviates, where its number is a group's: of the flows with this number nothing is awaited any more."""
-        number = int.from_bytes(frame.data[5:8], "little") if frame.pgn == TRANSPORT and is_announcement(frame) else frame.pgn
-        for place, flow in enumerate(self.plan.flows):
-            if flow.sender == sender and self.plan.groups[flow.group].pgn == number:
-                for bound in (BY_BUS, BY_LOAD):
-                    self.latest.pop((bound, place), None)
-
-    def take_bad(self) -> None:
-        self.asked = {}
-        self.end_all()
-        self.take_skipped()
-
-    def take_skipped(self) -> None:
-        self.before = self.idle = None
-
-    # ---- frames
-
-    def take(self, line: int, frame: Frame) -> None:
-        is_gap = self.see_time(frame.time)
-        is_claim = frame.pgn == CLAIM and len(frame.data) == FRAME_BYTES and frame.source <= NULL
-        claimant = next((place for place, unit in enumerate(self.plan.units) if is_claim and unit.name() == int.from_bytes(frame.data, "little")), None)
-        sender = self.addresses.sender(frame.source) if not is_claim and frame.source < NULL else None
-        flows = [] if sender is None else self.flows_of(sender, frame)
-        if frame.time is not None:
-            self.mark_idle(frame.time, len(frame.data), is_gap)
-            if is_claim:
-                self.end_at_claim(claimant, frame.source)
-            for place in flows if len(flows) > 1 else []:
-                self.end(place)
-            if sender is not None and not flows and frame.pgn != REQUEST and (frame.pgn != TRANSPORT or is_announcement(frame)):
-                self.drop(sender, frame)
-            if len(flows) == 1:
-                self.take_message(line, frame.time, flows[0], frame.pgn != TRANSPORT)
-            if frame.pgn == REQUEST and frame.data == CLAIMS_ASKED:
-                self.ask(line, frame.time + self.stamps, frame.source, frame.to)
-            if sender is not None:
-                self.shown[sender] = line, self.idle, frame.time
-                self.take_sign(sender)
-                self.take_broadcast(line, frame.time, frame, sender, flows)
-        if is_claim:
-            self.asked.pop(-1 if claimant is None else claimant, None)
-            word = None if claimant is None else self.addresses.deviation(claimant, frame.source)
-            if claimant is not None and word:
-                self.tell(word, claimant, line, 0)
-                if word == "address":
-                    self.places.setdefault(claimant, frame.source)
-            self.addresses.names.append((int.from_bytes(frame.data, "little"), frame.source))
-            self.addresses.claims.append((claimant, frame.source))
-            self.addresses.recent.append((claimant, frame.source))
-
-    def see_time(self, time: int | None) -> bool:
-        """Times begin anew at a frame without one or where the clock was set back, where the log breaks off, as behind a quiet second; and a gap ends."""
-        is_back = time is not None and self.greatest is not None and time + 2 * self.stamps < self.greatest
-        is_quiet = time is not None and self.greatest is not None and time > self.greatest + SECOND
-        is_gap = is_back or is_quiet or (time is not None and self.last is not None and time > self.last + self.gap)
-        if time is None or is_gap:
-            self.end_all()
-            self.asked = {}
-        if time is None or is_back:
-            self.before = self.idle = None
-            self.earliest = {}
-        self.greatest = time if time is None or is_back or self.greatest is None else max(self.greatest, time)
-        self.last = time
-        if is_back or is_quiet:
-            self.addresses.recent = []
-        return is_gap
-
-    def mark_idle(self, time: int, size: int, is_gap: bool) -> None:
-        """The bus was idle before a frame that doesn't touch the one before, if damage can't fill what is between."""
-        count, every = self.plan.errors or (0, 0)
-        reach = whole(BIT * (81 + 10 * size + 192 * count) * (SECOND + self.plan.drift), SECOND) + 2
-        is_rare = not self.plan.errors or BIT * 192 * (count + 1) * (SECOND + self.plan.drift) <= 1000 * every * SECOND
-        if not self.is_part and not is_gap and is_rare and self.before is not None and time > self.before + reach + 2 * self.stamps:
-            self.idle = time - reach - self.stamps
-        self.before = time
-
-    def end_at_claim(self, unit: int | None, source: int) -> None:
-        if unit is None and (source == NULL or self.addresses.is_taken(source)):
-            return
-        if unit is None or self.addresses.last(unit) != source:
-            self.end_all()
-            return
-        for place, flow in enumerate(self.plan.flows):
-            if unit in (flow.sender, flow.to):
-                self.end(place)
-        self.shown.pop(unit, None)
-        self.begun.pop(unit, None)
-
-    def ask(self, line: int, latest: int, source: int, to: int) -> None:
-        """A request for claims asks each unit that surely takes it, and that may not be the one that asks."""
-        for place, unit in enumerate(self.plan.units):
-            is_sure = self.addresses.sender(to) == place and (self.addresses.last(place) == to or not unit.moves)
-            is_asked = unit.claims and not self.is_part and not self.addresses.may_be(place, source) and (to == ALL or is_sure)
-            if is_asked and place not in self.asked:
-                self.asked[place] = latest, line
-
-    def take_sign(self, sender: int) -> None:
-        """A unit that sends is deaf where the bus was idle behind the time in which it had to answer."""
-        latest, line = self.asked.get(sender, (0, 0))
-        if line and self.idle is not None and self.idle > latest + self.longest(LONGEST_ANSWER_MS):
-            self.tell("deaf", sender, line, 0)
-            del self.asked[sender]
-
-    def take_broadcast(self, line: int, time: int, frame: Frame, unit: int, flows: list[int]) -> None:
-        """A planned broadcast begins with what announces it, and then has packets: all flows of the plan have a period."""
-        data, latest = frame.data, time + self.stamps
-        if frame.pgn == TRANSPORT and is_announcement(frame):
-            self.begun.pop(unit, None)
-            if flows:
-                self.begun[unit] = data[3], latest, line
-        elif unit in self.begun and (frame.pgn, frame.to, len(data)) == (PACKETS, ALL, FRAME_BYTES):
-            self.take_step("near packets", ("packets", unit), unit, line, latest, self.idle, self.shortest(GAP_MS))
-            left, end, before = self.begun[unit]
-            if left and self.idle is not None and self.idle > end + self.longest(LONGEST_GAP_MS):
-                self.tell("silent packets", unit, before, self.idle - end - self.longest(LONGEST_GAP_MS))
-            self.begun[unit] = max(left - 1, 0), latest, line
-
-    def flows_of(self, sender: int, frame: Frame) -> list[int]:
-        """The flows of which a frame, or what it announces, may be a message: the nearest ones."""
-        number, size, priority, data = frame.pgn, len(frame.data), frame.priority, frame.data
-        if number in (CLAIM, REQUEST, PACKETS):
-            return []
-        if number == TRANSPORT:
-            size, number = data[1] | data[2] << 8, int.from_bytes(data[5:8], "little")
-            if not is_announcement(frame):
-                return []
-        is_single = frame.pgn != TRANSPORT
-        is_broadcast = is_single and frame.is_broadcast()
-
-        def is_of(flow: Flow) -> bool:
-            group, to = self.plan.groups[flow.group], flow.to
-            is_fit = group.pgn == number and group.length <= size <= group.most and (not is_single or group.priority == priority)
-            if not is_fit or flow.sender != sender or is_broadcast:
-                return is_fit and flow.sender == sender
-            return frame.to == ALL if to is None else frame.to != ALL and (self.addresses.is_own(to, frame.to) or self.addresses.last(to) == frame.to)
-
-        found = [place for place, flow in enumerate(self.plan.flows) if is_of(flow)]
-        near = [it for it in found if is_broadcast or (to := self.plan.flows[it].to) is None or self.addresses.may_be(to, frame.to)]
-        return near or found
-
-    def take_step(self, word: str, stream: tuple[str, int], place: int, line: int, upper: int, lower: int | None, step: int) -> None:
-        """The messages of a stream are a step apart."""
-        last = self.earliest.get(stream)
-        bounds = [it for it in (lower, None if last is None else last + step) if it is not None]
-        earliest = max(bounds, default=None)
-        if earliest is not None and earliest > upper:
-            self.tell(word, place, line, earliest - upper)
-            earliest = lower
-        self.earliest[stream] = earliest
-
-    def take_message(self, line: int, time: int, place: int, is_single: bool) -> None:
-        if (self.plan.groups[self.plan.flows[place].group].most <= FRAME_BYTES) == is_single:
-            for bound in (BY_BUS, BY_LOAD):
-                self.take_bounds(bound, line, place, self.lower(bound, place, self.idle, time), time + self.stamps)
-
-    def take_bounds(self, bound: str, line: int, place: int, lower: int | None, upper: int) -> None:
-        flow, key = self.plan.flows[place], (bound, place)
-        self.take_step(f"near{bound} flow", key, place, line, upper, lower, self.shortest(flow.period))
-        pause = self.pause(flow)
-        if pause is None:
-            return
-        latest = upper
-        if key in self.latest:
-            moment, before = self.latest[key]
-            if lower is not None and lower > moment + pause:
-                self.tell(f"silent{bound} flow", place, before, lower - moment - pause)
-            else:
-                latest = min(upper, moment + pause)
-        self.latest[key] = latest, line
-
-    def lines(self) -> list[str]:
-        """What is told, by words and then by units or flows."""
-        deaf = [(unit.label, told) for place, unit in enumerate(self.plan.units) if (told := self.told.get(("deaf", place)))]
-        claims = [(word, place, self.told.get((word, place), [])) for word in ("address", "cannot") for place in range(len(self.plan.units))]
-        found = [f"{word} unit {self.plan.units[place].label}{f' at {self.places[place]}' if word == 'address' else ''} times {len(told)} first {told[0][0]}"
-                 for word, place, told in claims if told]
-        found += [f"deaf unit {label} times {len(told)} first {told[0][0]}" for label, told in deaf]
-        flows = [f"{at} {self.plan.groups[it.group].label} {self.plan.units[it.sender].label} {self.plan.receiver(it)}" for at, it in enumerate(self.plan.flows, 1)]
-        for first, kind in (("near", "flow"), ("near", "packets"), ("silent", "flow"), ("silent", "packets")):
-            for place, name in enumerate([unit.label for unit in self.plan.units] if kind == "packets" else flows):
-                word = f"{first} {kind}" if kind == "packets" or (f"{first} {kind}", place) in self.told else f"{first}{BY_LOAD} {kind}"
-                if told := self.told.get((word, place)):
-                    by = max(it[1] for it in told)
-                    worst = next(it[0] for it in told if it[1] == by)
-                    found.append(f"{word} {name} times {len(told)} first {told[0][0]} worst {worst} by {by} us")
-        return found
+def copies(dice: random.Random, line: Line) -> list[Frame]:
+    """The same frame once more, seldom, as soon as a copy of its line may stand in a log, or later."""
+    if not isinstance(line, Frame) or line.time is None or dice.random() < 0.93:
+        return []
+    shortest = 4 * (67 + 8 * len(line.data))
+    return [line._replace(time=max(line.time + later, 0)) for later in dice.choice([[0], [1], [shortest - 1], [shortest], [-1], [0, 300], [shortest - 1, shortest]])]
 
 
 def wanted(plan: Plan, lines: list[Line], is_part: bool, stamps: int, quiet: int | None, folder: str) -> list[str]:
@@ -488,7 +91,7 @@ def wanted(plan: Plan, lines: list[Line], is_part: bool, stamps: int, quiet: int
     reference = Reference(plan, is_part, stamps, quiet, responses_of(plan, folder))
     for number, line in enumerate(lines, 1):
         if isinstance(line, Frame):
-            reference.take(number, line)
+            reference.take_line(number, line)
         elif line[1] == "bad":
             reference.take_bad()
         elif line[1] == "skipped":
@@ -517,12 +120,13 @@ def answered(plan: Plan, lines: list[Line], is_part: bool, stamps: int, quiet: i
     answer = ran.stdout.splitlines()
     if ran.returncode > 1 or not answer or not answer[-1].startswith("deviations "):
         raise SystemExit(f"audit answers {ran.stdout}{ran.stderr}")
-    return [line for line in answer if line.startswith(("address unit ", "cannot unit ", "deaf unit ", "near flow ", "near packets ", "near_or_late flow ", "silent ", "silent_or_late "))]
+    again = ["again " + "".join(re.findall(r" again (\d+)$", line) or "0") for line in answer if line.startswith("frames ")]
+    return [line for line in answer if line.startswith(("address unit ", "cannot unit ", "deaf unit ", "near flow ", "near packets ", "near_or_late flow ", "silent ", "silent_or_late "))] + again
 
 
 def main(words: list[str]) -> int:
     count, seed = int(words[0]) if words else 200, int(words[1]) if words[1:] else 1
-    differences, told = 0, {word: 0 for word in ("address", "cannot", "deaf", "near", "near_or_late", "silent", "silent_or_late")}
+    differences, told = 0, {word: 0 for word in ("address", "cannot", "deaf", "near", "near_or_late", "silent", "silent_or_late", "again")}
     with tempfile.TemporaryDirectory(prefix="j39plan-audits-") as folder:
         for number in range(count):
             dice = random.Random(f"{seed} {number}")
@@ -531,7 +135,7 @@ def main(words: list[str]) -> int:
             quiet = dice.choice([None, None, 1000, 30, 1])
             want, have = wanted(plan, lines, is_part, stamps, quiet, folder), answered(plan, lines, is_part, stamps, quiet, folder)
             for line in want:
-                told[line.split()[0]] += 1
+                told[line.split()[0]] += line != "again 0"
             if want != have:
                 differences += 1
                 print(f"log {number} of seed {seed}: audit tells {have}, the reference {want}")
