@@ -227,6 +227,8 @@ broadcast_of timing flow pace group = record {
   period = pace.period;
   apart = bits_at_least timing pace.period;
   jitter = bits_at_most timing pace.jitter;
+  late = bits_at_most timing pace.jitter;
+  askers = 0;
   deadline = option_map (bits_inside timing) pace.deadline;
 }
 
@@ -258,12 +260,3 @@ flow_load timing units stays flow pace group = record {
   limit = time_limit timing pace;
   bits_per_second = load_of_messages timing (messages_of timing units stays flow pace group) pace.period;
 }
-
--- what a flow asks of the bus, where it is known how often it is sent
-abbrev pub load_of_flow : Timing → Plan → (UnitPlan → Bool) → FlowPlan → Option FlowLoad
-load_of_flow timing plan stays flow =
-    option_and_then (λ pace. option_map (flow_load timing plan.units.items stays flow pace) (slice_get plan.groups.items flow.group)) flow.pace
-
--- what each flow asks of the bus, in order
-abbrev pub loads_of : Timing → Plan → (UnitPlan → Bool) → List (Option FlowLoad)
-loads_of timing plan stays = map (load_of_flow timing plan stays) plan.flows.items

@@ -9,6 +9,7 @@ ghost use Rattle.j39_id.specs.Limits.{unit_limit};
 ghost use Rattle.std.proofs.Props.{props};
 ghost use Rattle.std.specs.Option.{option_map_or};
 
+mod answers;
 mod broadcasts;
 mod flow_load;
 mod flow_loads;
