@@ -2,7 +2,7 @@
 use Rattle.std.proofs.Common.{◌≡◌, ℕ, zero, suc, ◌+◌, ◌-◌, ◌*◌, ◌<◌, ◌≤◌, Bool, true, false, not, ◌&&◌, eqb, cond, if◌then◌else◌, List, [], ◌∷◌, length, get_or}
 use Rattle.std.proofs.Common.{ltb, Option, Some, None, is_some, refl, sym, ap, ◌∙◌, subst, inl, inr, arith}
 use Rattle.std.proofs.Math.Nat.{mul-le-mul_right}
-use Rattle.std.proofs.lemmas.Bool.{and_parts, both_ways, cases_lt, lt-ltb, true≢false}
+use Rattle.std.proofs.lemmas.Bool.{and_parts, both_ways, cases_lt, lt-ltb, ne_eqb, true≢false}
 use Rattle.std.proofs.lemmas.Option.{get_or_from_slice_get, none-some, same_Some, slice_get_within}
 use Rattle.std.specs.List.{cons_option, filter_map, slice_get}
 use Rattle.std.specs.Option.{option_map_or}
@@ -110,7 +110,7 @@ none_where_unasked requests flow pace paced isnt =
     go : (b : Bool) (n : ℕ) → b && (true && not (eqb n 0)) ≡ false → (if b then n else 0) ≡ 0
     go false n none = refl
     go true zero none = refl
-    go true (suc n) none = absurd (true≢false none)
+    go true (suc n) none = absurd (true≢false (sym (ap not (ne_eqb (suc n) 0 (λ same. omega (arith, same)))) ∙ none))
 
 pub unasked_where_none : (requests : List RequestPlan) (flow : FlowPlan) → askers_of requests flow ≡ 0 → is_answering requests flow ≡ false
 unasked_where_none requests flow none = go flow.on_request (is_some flow.pace) (length (asking_periods requests flow)) none
@@ -128,7 +128,7 @@ asked_where_some requests flow pace k paced some =
   where
     go : (b : Bool) (n : ℕ) → (if b then n else 0) ≡ suc k → b && (true && not (eqb n 0)) ≡ true
     go false n is = absurd (omega (arith, is))
-    go true n is = ap (λ (m : ℕ). not (eqb m 0)) is
+    go true n is = ap (λ (m : ℕ). not (eqb m 0)) is ∙ ap not (ne_eqb (suc k) 0 (λ same. omega (arith, same)))
 
 -- ---- its answers
 

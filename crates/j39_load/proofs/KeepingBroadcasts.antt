@@ -565,13 +565,13 @@ module _ (plan : Plan) (timing : Timing) (stays : UnitPlan → Bool) (s : Schedu
       -- ---- what comes only as an answer
 
       -- who asks for it
-      asked_by : (x : Source) (its : Stream) → IsPaced plan timing stays x its → (want : Want) → askers_want its ≡ Some want → IsAskedBy plan timing stays x its want
-      asked_by (Single f) its paced want is = paced.asked want is
-      asked_by (First f) its paced want is = paced.asked want is
-      asked_by (InSession f part) its paced want is = paced.asked want is
-      asked_by (Asking r) its paced want is = paced.asked want is
-      asked_by (Announcing u m) its paced want is = absurd (none-some want (sym (ap askers_want paced) ∙ is))
-      asked_by (Carrying u m k) its paced want is = absurd (none-some want (sym (ap askers_want paced) ∙ is))
+      asked_by : (x : Source) (one : Stream) → IsPaced plan timing stays x one → (want : Want) → askers_want one ≡ Some want → IsAskedBy plan timing stays x one want
+      asked_by (Single f) one paced want is = paced.asked want is
+      asked_by (First f) one paced want is = paced.asked want is
+      asked_by (InSession f part) one paced want is = paced.asked want is
+      asked_by (Asking r) one paced want is = paced.asked want is
+      asked_by (Announcing u m) one paced want is = absurd (none-some want (sym (ap askers_want paced) ∙ is))
+      asked_by (Carrying u m k) one paced want is = absurd (none-some want (sym (ap askers_want paced) ∙ is))
 
       flow_paced : (f : ℕ) (x : Source) → IsOfFlow f x → HasPace plan timing stays x
       flow_paced f (Single g) is = tt
@@ -647,8 +647,8 @@ module _ (plan : Plan) (timing : Timing) (stays : UnitPlan → Bool) (s : Schedu
               one_place y.by.place x.by.place (sent.source q) (sent.source p) y.by.of_flow x.by.of_flow in_y in_x (y.there ∙ sym x.there) in
               (y.copy.below, y.copy.is, subst (λ (f : ℕ). IsOfFlow f (sent.source q)) one y.by.of_flow)
 
-          kept : AnswerRequests plan timing flow (IsOf w plans of j) AreAlike within w.queued answers.of_frame
-          kept = narrowed plan timing flow (IsFrameOfFlow s planned sent x.by.place) (IsOf w plans of j) AreAlike within s.queued w.queued answers.of_frame
+          its_answers : AnswerRequests plan timing flow (IsOf w plans of j) AreAlike within w.queued answers.of_frame
+          its_answers = narrowed plan timing flow (IsFrameOfFlow s planned sent x.by.place) (IsOf w plans of j) AreAlike within s.queued w.queued answers.of_frame
               of_its_flow (λ q is. (each_asked q is).copy.queued) (answers.frames x.by.place x.by.answering)
 
           abbrev turn_at : ℕ → ℕ
@@ -674,13 +674,13 @@ module _ (plan : Plan) (timing : Timing) (stays : UnitPlan → Bool) (s : Schedu
               let period = x.by.period in
               let positive = some_bits timing pace.period pace.period_positive in
               frames_answer w plans of j (stream j).jitter (ms_parts timing pace.period) want (requesters_each timing (asking_periods plan.requests.items flow))
-              (answered plan timing flow (IsOf w plans of j) AreAlike within w.queued answers.of_frame kept turn_at)
+              (answered plan timing flow (IsOf w plans of j) AreAlike within w.queued answers.of_frame its_answers turn_at)
               (some_bit timing)
-              (no_oftener plan timing flow (IsOf w plans of j) AreAlike within w.queued answers.of_frame kept pace x.by.answering.paced x.by.answering.answers p is)
+              (no_oftener plan timing flow (IsOf w plans of j) AreAlike within w.queued answers.of_frame its_answers pace x.by.answering.paced x.by.answering.answers p is)
               (omega (arith, period, positive))
               (subst (λ (y : ℕ). y * bit_parts timing ≤ ms_parts timing pace.period) (sym period) (period_in_parts timing pace.period))
               x.by.askers
-              (are_answers plan timing flow (IsOf w plans of j) AreAlike within w.queued answers.of_frame kept turn_at ((stream j).jitter + want.jitter) want.frames
+              (are_answers plan timing flow (IsOf w plans of j) AreAlike within w.queued answers.of_frame its_answers turn_at ((stream j).jitter + want.jitter) want.frames
               late_at_most (λ q its. (each_asked q its).by.turn) alike)
 
       -- one of the frames that count

@@ -1,7 +1,7 @@
 -- On a bus that keeps to a plan with whose load nothing is wrong each long message to all that has a deadline is whole within it.
-use Rattle.std.proofs.Common.{◌≡◌, ℕ, zero, suc, ◌+◌, ◌-◌, ◌<◌, ◌≤◌, Bool, true, ◌&&◌, eqb, leb, if◌then◌else◌, List, [], get_or, length}
+use Rattle.std.proofs.Common.{◌≡◌, ℕ, zero, suc, ◌+◌, ◌-◌, ◌<◌, ◌≤◌, Bool, true, false, ◌&&◌, eqb, leb, if◌then◌else◌, List, [], get_or, length}
 use Rattle.std.proofs.Common.{Option, Some, None, refl, sym, ap, ◌∙◌, subst, arith, inl, inr, option_map}
-use Rattle.std.proofs.lemmas.Bool.{and_parts, cases_lt, eqb-true, leb-true}
+use Rattle.std.proofs.lemmas.Bool.{and_parts, cases_lt, eqb-true, leb-true, ne_eqb}
 use Rattle.std.proofs.lemmas.Option.{none-some, same_Some}
 use Rattle.std.specs.List.{slice_get}
 use Rattle.j39_findings.specs.Findings.{Clean}
@@ -65,8 +65,10 @@ unasked_inside broadcast turn none up =
 asked_inside : (broadcast : Broadcast) (turn : Turn) (k : ℕ) → broadcast.askers ≡ suc k → keeps_up broadcast turn ≡ true
     → (broadcast.askers ≡ 1) × (turn.time + broadcast.late ≤ broadcast.apart)
 asked_inside broadcast turn k some up =
+    let never : eqb (suc k) 0 ≡ false = ne_eqb (suc k) 0 (λ same. omega (arith, same)) in
     let both : eqb (suc k) 1 && leb (turn.time + broadcast.late) broadcast.apart ≡ true =
-    ap (λ (n : ℕ). if eqb n 0 then keeps_pace broadcast turn else (eqb n 1 && leb (turn.time + broadcast.late) broadcast.apart)) (sym some) ∙ up in
+    ap (λ (b : Bool). if b then keeps_pace broadcast turn else (eqb (suc k) 1 && leb (turn.time + broadcast.late) broadcast.apart)) (sym never)
+    ∙ (ap (λ (n : ℕ). if eqb n 0 then keeps_pace broadcast turn else (eqb n 1 && leb (turn.time + broadcast.late) broadcast.apart)) (sym some) ∙ up) in
     let two = and_parts (eqb (suc k) 1) (leb (turn.time + broadcast.late) broadcast.apart) both in (
       some ∙ eqb-true (suc k) 1 two.0,
       leb-true (turn.time + broadcast.late) broadcast.apart two.1,
