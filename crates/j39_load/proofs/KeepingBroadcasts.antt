@@ -565,13 +565,13 @@ module _ (plan : Plan) (timing : Timing) (stays : UnitPlan → Bool) (s : Schedu
       -- ---- what comes only as an answer
 
       -- who asks for it
-      asked_by : (x : Source) (one : Stream) → IsPaced plan timing stays x one → (want : Want) → askers_want one ≡ Some want → IsAskedBy plan timing stays x one want
-      asked_by (Single f) one paced want is = paced.asked want is
-      asked_by (First f) one paced want is = paced.asked want is
-      asked_by (InSession f part) one paced want is = paced.asked want is
-      asked_by (Asking r) one paced want is = paced.asked want is
-      asked_by (Announcing u m) one paced want is = absurd (none-some want (sym (ap askers_want paced) ∙ is))
-      asked_by (Carrying u m k) one paced want is = absurd (none-some want (sym (ap askers_want paced) ∙ is))
+      asked_by : (x : Source) (stream_of : Stream) → IsPaced plan timing stays x stream_of → (want : Want) → askers_want stream_of ≡ Some want → IsAskedBy plan timing stays x stream_of want
+      asked_by (Single f) stream_of paced want is = paced.asked want is
+      asked_by (First f) stream_of paced want is = paced.asked want is
+      asked_by (InSession f part) stream_of paced want is = paced.asked want is
+      asked_by (Asking r) stream_of paced want is = paced.asked want is
+      asked_by (Announcing u m) stream_of paced want is = absurd (none-some want (sym (ap askers_want paced) ∙ is))
+      asked_by (Carrying u m k) stream_of paced want is = absurd (none-some want (sym (ap askers_want paced) ∙ is))
 
       flow_paced : (f : ℕ) (x : Source) → IsOfFlow f x → HasPace plan timing stays x
       flow_paced f (Single g) is = tt

@@ -27,7 +27,7 @@ use Rattle.j39_timing.specs.TimedFrames.{IsLegal, Schedule}
 use Rattle.j39_timing.specs.Traffic.{others_queued}
 use Rattle.j39_timing.proofs.Sums.{total-none}
 use Rattle.j39_world.specs.HeldAddresses.{ArePlannedApart}
-use Rattle.j39_load.specs.AskedFlows.{is_asked_too_often}
+use Rattle.j39_load.specs.AskedFlows.{is_answering, is_asked_too_often}
 use Rattle.j39_load.specs.KeepsAnswers.{IsAnswering, IsOfFlow, KeepsAnswers}
 use Rattle.j39_load.specs.KeepsBroadcasts.{KeepsBroadcasts}
 use Rattle.j39_load.specs.KeepsPlan.{CanBeKept, KeepsQueues, KeepsToPlan, KeptBus}
@@ -180,6 +180,36 @@ keeps_all plan timing apart s sent frames behind answers broadcasts = record {
   few_others = λ p from to in_p is source seen waits wait.
       let none = none_other s all_planned (λ q. refl) (s.ident p) from to in omega (arith, none);
 }
+
+-- frames of one flow answer nothing, where it doesn't come only as an answer
+pub answer_nothing : (plan : Plan) (timing : Timing) (s : Schedule) (sent : FrameSources) (f : ℕ) (flow : FlowPlan) → slice_get plan.flows.items f ≡ Some flow
+    → is_answering plan.requests.items flow ≡ false → ((p g : ℕ) → IsOfFlow g (sent.source p) → f ≡ g) → ((u : ℕ) → sent.broadcasts.count u ≡ 0)
+    → KeepsAnswers plan timing s all_planned sent
+answer_nothing plan timing s sent f flow its unasked of_flow none = record {
+  of_frame = λ p. record { request = 0; number = 0; moment = 0 };
+  of_message = λ u m. record { request = 0; number = 0; moment = 0 };
+  frames = λ g answering. record {
+    few = λ p is. absurd (never g answering (of_flow p g is.2));
+    asked = λ p is. absurd (never g answering (of_flow p g is.2));
+    moment_first = λ p is. absurd (never g answering (of_flow p g is.2));
+    in_time = λ p is. absurd (never g answering (of_flow p g is.2));
+    once = λ p q is other alike same. absurd (never g answering (of_flow p g is.2));
+    apart = λ p q ms is other same order every. absurd (never g answering (of_flow p g is.2));
+  };
+  messages = λ u g answering. record {
+    few = λ m is. absurd (let below = is.0 in let zero_is = none u in omega (arith, below, zero_is));
+    asked = λ m is. absurd (let below = is.0 in let zero_is = none u in omega (arith, below, zero_is));
+    moment_first = λ m is. absurd (let below = is.0 in let zero_is = none u in omega (arith, below, zero_is));
+    in_time = λ m is. absurd (let below = is.0 in let zero_is = none u in omega (arith, below, zero_is));
+    once = λ m n is other alike same. absurd (let below = is.0 in let zero_is = none u in omega (arith, below, zero_is));
+    apart = λ m n ms is other same order every. absurd (let below = is.0 in let zero_is = none u in omega (arith, below, zero_is));
+  };
+}
+  where
+    never : (g : ℕ) → IsAnswering plan g → f ≡ g → ⊥
+    never g answering same =
+        let one : flow ≡ answering.flow = same_Some _ _ (sym its ∙ (ap (slice_get plan.flows.items) same ∙ answering.its)) in
+        true≢false (sym answering.answers ∙ (ap (is_answering plan.requests.items) (sym one) ∙ unasked))
 
 -- ---- frames of one source, so many bits apart
 

@@ -1,4 +1,4 @@
--- A flow that isn't sent as an answer has no askers, so that its messages are a period apart.
+-- A flow that isn't sent as an answer has no askers; and the messages of one that has none are a period apart.
 use Rattle.std.proofs.Common.{◌≡◌, ℕ, Bool, true, false, if◌then◌else◌, Option, Some, None, refl, sym, ap, ◌∙◌, subst}
 use Rattle.std.proofs.lemmas.Option.{none-some, same_Some}
 use Rattle.std.specs.List.{slice_get}
@@ -22,13 +22,7 @@ use Rattle.j39_timing.specs.Waits.{IsSpaced, askers_want}
 use Rattle.std.proofs.Common.{length}
 
 module _ (timing : Timing) (plan : Plan) (stays : UnitPlan → Bool) (flow : FlowPlan) (load : FlowLoad) (frames : FlowFrames) (short : load.messages ≡ Short frames)
-    (unasked : flow.on_request ≡ false) where
-  abbrev k : ℕ
-  k = askers_of plan.requests.items flow
-
-  none_asks : askers_of plan.requests.items flow ≡ 0
-  none_asks = ap (λ (b : Bool). if b then length (asking_periods plan.requests.items flow) else 0) unasked
-
+    (none_asks : askers_of plan.requests.items flow ≡ 0) where
   module _ (pace : Pace) (group : GroupPlan) where
     by_length : (b : Bool) (to : To)
         → messages_for timing pace (askers_of plan.requests.items flow)
@@ -48,5 +42,10 @@ module _ (timing : Timing) (plan : Plan) (stays : UnitPlan → Bool) (flow : Flo
   by_parts (Some pace) (Some group) paced at is =
       by_length pace group (is_always_short group) flow.to (ap (λ (l : FlowLoad). l.messages) (same_Some _ load (rw (paced, at) at is)) ∙ short)
 
-  pub unasked_spaced : load_of_flow timing plan stays flow ≡ Some load → IsSpaced frames.stream
-  unasked_spaced = by_parts flow.pace (slice_get plan.groups.items flow.group) refl refl
+  pub spaced_where_none_asks : load_of_flow timing plan stays flow ≡ Some load → IsSpaced frames.stream
+  spaced_where_none_asks = by_parts flow.pace (slice_get plan.groups.items flow.group) refl refl
+
+pub unasked_spaced : (timing : Timing) (plan : Plan) (stays : UnitPlan → Bool) (flow : FlowPlan) (load : FlowLoad) (frames : FlowFrames)
+    → load.messages ≡ Short frames → flow.on_request ≡ false → load_of_flow timing plan stays flow ≡ Some load → IsSpaced frames.stream
+unasked_spaced timing plan stays flow load frames short unasked = spaced_where_none_asks timing plan stays flow load frames short
+    (ap (λ (b : Bool). if b then length (asking_periods plan.requests.items flow) else 0) unasked)

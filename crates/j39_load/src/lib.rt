@@ -26,5 +26,5 @@ pub use laws::{
     written_bytes_are_reported,
 };
 pub use live_claims::timing_of;
-pub use loads::{FlowLoad, Loads, RequestLoad, UnitLoad};
+pub use loads::{FlowLoad, Loads, RequestLoad, UnitLoad, answered_within, askers_of};
 pub use waits::{Delay, WholeTime};

@@ -18,6 +18,7 @@ mod request_load;
 mod requests;
 mod unit_load;
 
+pub use answers::{answered_within, askers_of};
 use crate::frames::{PlannedBus, load_of_damage};
 use broadcasts::unit_loads_of;
 pub use flow_load::FlowLoad;

@@ -146,6 +146,13 @@ pub record AreFrames (unit : ℕ → ℕ) (Twins : ℕ → ℕ → Type 0) (x y 
   pub twin : (m : ℕ) → x.twin_ident ≡ Some m → (n : ℕ) × (y.twin_ident ≡ Some n) × Twins m n
   pub want : WantAlike unit x.want y.want
 
+-- the same, but for who wants their messages
+pub record AreAtOnePace (x y : Stream) : Type 0 where
+  pub frames : x.frames ≡ y.frames
+  pub period : x.period ≡ y.period
+  pub bits : x.bits ≡ y.bits
+  pub jitter : x.jitter ≡ y.jitter
+
 -- with a jitter that counts where this holds
 abbrev pub AreFramesWhere : (ℕ → ℕ) → (ℕ → ℕ → Type 0) → (FlowFrames → Type 0) → Option FlowFrames → Option FlowFrames → Type 0
 AreFramesWhere unit Twins Counts None y = Unit {0}
@@ -455,14 +462,11 @@ module _ (unit : ℕ → ℕ) (Twins : ℕ → ℕ → Type 0) (one_twin : (m n 
       line_beside j (Some v) None at are_vw = absurd are_vw
       line_beside j (Some v) (Some w) at are_vw = elim (cases_eq j i) [
         | inl same ↦
-            let one : v ≡ x = some_of_some v x (same_Some (Some v) (Some x) (sym at ∙ (ap (slice_get all) same ∙ at_x))) in
+            let one : v ≡ x = same_Some v x (same_Some (Some v) (Some x) (sym at ∙ (ap (slice_get all) same ∙ at_x))) in
             let none : are_asked_for v ≡ false = ap are_asked_for one ∙ (asked_x ∙ unasked) in
             rw (eq-eqb j i same, none) tt
         | inr other ↦ rw (ne_eqb j i other, apart_there j other) (one_line v w are_vw.0 are_vw.1)
       ]
-        where
-          some_of_some : (a b : FlowFrames) → Some a ≡ Some b → a ≡ b
-          some_of_some a b same = same_Some a b same
 
       streams_beside : IsSub Asks (streams_before timing i own all) (damage_streams busy ++ lines_of_each (going_beside (place i) there) 0 others)
       streams_beside =
@@ -486,7 +490,7 @@ module _ (unit : ℕ → ℕ) (Twins : ℕ → ℕ → Type 0) (one_twin : (m n 
 
       own_counted : (w : ℕ) → own_bits ≤ sum_by (lesser_share (demands_of others) (w + 1)) (own_before y)
       own_counted w = elim (cases_Bool (are_asked_for there)) [
-        | inr none ↦ rw (none, asked_y) (omega arith)
+        | inr none ↦ rw (none, asked_y ∙ none) (omega arith)
         | inl is ↦
             let asked_there : are_asked_for y ≡ true = asked_y ∙ is in
             let one = one_queued (demands_of others) (w + 1) x y (omega arith) alike (asked_x ∙ unasked) asked_there in
@@ -523,7 +527,7 @@ module _ (unit : ℕ → ℕ) (Twins : ℕ → ℕ → Type 0) (one_twin : (m n 
               let counted = beside_and_own w in
               let beside = sum_by-append (lesser_share (demands_of others) (w + 1)) (damage_streams busy) (lines_of_each (going_beside (place i) there) 0 others) in
               let before = sum_by-append (lesser_share (demands_of others) (w + 1)) (damage_streams busy) (lines_of_each (going_before (place i) there) 0 others) in
-              let none : blocking_of timing own ≡ blocking timing own.greatest_ident =
+              let none : blocking_of timing own ≡ blocking timing own.greatest_ident - 0 =
               ap (λ (b : Bool). blocking timing own.greatest_ident - (if b then own.stream.bits else 0)) unasked in
               omega (arith, all_of, counted, beside, before, none)
 

@@ -17,8 +17,8 @@ use j39_timing::{Stream, Want, WantedBy};
 // for its way.
 const ANSWER_TIME: u16 = 250;
 
-/// How many requests that have a period ask for the flow, where it comes only as an answer.
-pub(crate) fn askers_of(requests: &[RequestPlan], flow: &FlowPlan) -> u16
+/// How many requests that have a period ask for the flow, where it comes only as an answer; else 0.
+pub fn askers_of(requests: &[RequestPlan], flow: &FlowPlan) -> u16
     requires { length requests.now ≤ request_limit }
     ensures askers { result ≡ askers_of requests.now flow.now }
     ensures few { result ≤ request_limit }
@@ -35,8 +35,9 @@ pub(crate) fn askers_of(requests: &[RequestPlan], flow: &FlowPlan) -> u16
     askers
 }
 
-// So many milliseconds behind its request a message of such a pace is queued at most.
-fn answered_within(pace: Pace) -> u16
+/// So many milliseconds behind its request an answer of this pace is queued at most: 250, or its jitter where that is
+/// greater.
+pub fn answered_within(pace: Pace) -> u16
     ensures { result ≡ time_to_answer pace }
 {
     pace.jitter.max(ANSWER_TIME)
