@@ -42,12 +42,13 @@ AsksAt requests flow r ms = (asked : RequestPlan) × (slice_get requests r ≡ S
 first_asks : (requests : List RequestPlan) (flow : FlowPlan) → 0 < length (asking_periods requests flow)
     → AsksAt requests flow (first_asking requests flow) (first_period requests flow)
 first_asks [] flow some = absurd (omega (arith, some))
-first_asks (request ∷ requests) flow some = go (asked_every flow request) refl some
+first_asks (request ∷ requests) flow some = go (λ rest. first_asks requests flow rest) (asked_every flow request) refl some
   where
-    go : (o : Option ℕ) → asked_every flow request ≡ o → 0 < length (cons_option o (asking_periods requests flow))
+    go : (0 < length (asking_periods requests flow) → AsksAt requests flow (first_asking requests flow) (first_period requests flow))
+        → (o : Option ℕ) → asked_every flow request ≡ o → 0 < length (cons_option o (asking_periods requests flow))
         → AsksAt (request ∷ requests) flow (cond (is_some o) 0 (suc (first_asking requests flow))) (get_or (cons_option o (asking_periods requests flow)) 0 0)
-    go None none rest = let (asked, at, every) = first_asks requests flow rest in (asked, at, every)
-    go (Some ms) is rest = (request, refl, is)
+    go later None none rest = let (asked, at, every) = later rest in (asked, at, every)
+    go later (Some ms) is rest = (request, refl, is)
 
 served_where_asked : (flow : FlowPlan) (asked : RequestPlan) (ms : ℕ) → asked_every flow asked ≡ Some ms → (serves asked flow ≡ true) × (asked.period ≡ Some ms)
 served_where_asked flow asked ms is = go (serves asked flow) refl is
@@ -199,7 +200,9 @@ module _ (plan : Plan) (timing : Timing) (s : Schedule) (sent : FrameSources) (h
     apart = λ m n ms is_m is_n same order every.
         let release : sent.broadcasts.release u m ≡ sent.broadcasts.release u n =
         ap (sent.broadcasts.release u) (one_message u m is_m.0 ∙ sym (one_message u n is_n.0)) in
-        in_ms_behind timing 0 (sent.broadcasts.release u m) (sent.broadcasts.release u n) (omega (arith, release));
+        let nothing : 0 ≡ 0 * ms = omega arith in
+        subst (λ (x : ℕ). IsMsBehind timing x (sent.broadcasts.release u m) (sent.broadcasts.release u n)) nothing
+        (in_ms_behind timing 0 (sent.broadcasts.release u m) (sent.broadcasts.release u n) (omega (arith, release)));
   }
     where
       request_is : (m : ℕ) → sent.broadcasts.flow u m ≡ f → first_of_flow plan (sent.broadcasts.flow u m) ≡ first_asking plan.requests.items answering.flow

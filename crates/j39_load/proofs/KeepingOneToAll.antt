@@ -1,5 +1,5 @@
 -- What a bus keeps on which one long message is sent to all, its frames in slots one behind the other, whatever goes in the other slots.
-use Rattle.std.proofs.Common.{◌≡◌, ℕ, ◌+◌, ◌*◌, ◌<◌, ◌≤◌, Bool, true, false, cond, eqb, Some, refl, sym, ap, ◌∙◌, inl, inr, arith}
+use Rattle.std.proofs.Common.{◌≡◌, ℕ, ◌+◌, ◌*◌, ◌<◌, ◌≤◌, Bool, true, false, cond, eqb, Some, refl, sym, ap, ◌∙◌, subst, inl, inr, arith}
 use Rattle.std.proofs.Math.Nat.{mul-le-mul_right}
 use Rattle.std.proofs.lemmas.Bool.{cases_lt, eq-eqb, eqb-true}
 use Rattle.std.specs.List.{slice_get}
@@ -18,8 +18,8 @@ use Rattle.j39_load.specs.KeepsAnswers.{IsAnswering, IsOfFlow}
 use Rattle.j39_load.specs.KeepsBroadcasts.{KeepsBroadcasts, KeepsTurns}
 use Rattle.j39_load.specs.KeepsPlan.{KeepsToPlan}
 use Rattle.j39_load.specs.Loads.{bits_per_ms}
-use Rattle.j39_load.specs.SentFrames.{Announcing, Broadcasts, Carrying, FrameSources, IsBroadcastFrame, IsFrameOf, Source}
-use Rattle.j39_load.proofs.AnswersGiven.{answers_given}
+use Rattle.j39_load.specs.SentFrames.{Announcing, Broadcasts, Carrying, FrameSources, IsBroadcastFrame, IsFrameOf, IsMsBehind, Source}
+use Rattle.j39_load.proofs.AnswersGiven.{answers_given, first_period}
 use Rattle.j39_load.proofs.KeepingPlanned.{IsAskedSeldom, keeps_all, planned_address, planned_held, planned_sender, seldom_at}
 use Rattle.j39_load.proofs.Milliseconds.{at_once, in_ms_behind}
 use Rattle.j39_load.proofs.Slots.{ends_before, slots}
@@ -161,6 +161,9 @@ module _ (plan : Plan) (timing : Timing) (apart : ArePlannedApart (units_of plan
       (answers_given plan timing bus sent (planned_held plan apart) frames broadcasts (λ p. 0) (λ p g answering in_p is. one.others_few p g answering is)
       (λ p q in_p in_q same number. same_slot p q same)
       (λ p q g answering in_p in_q is_p is_q order.
-      let release = one.one_release p q g answering in_p in_q is_p is_q in in_ms_behind timing 0 (one.release p) (one.release q) (omega (arith, release)))
+      let release = one.one_release p q g answering in_p in_q is_p is_q in
+      let nothing : 0 ≡ 0 * first_period plan.requests.items answering.flow = omega arith in
+      subst (λ (x : ℕ). IsMsBehind timing x (one.release p) (one.release q)) nothing
+      (in_ms_behind timing 0 (one.release p) (one.release q) (omega (arith, release))))
       (λ x m g answering below is. seldom_at plan one.f g one.flow one.its is one.few answering) (λ x m below. (only_message x m below).0))
       broadcasts

@@ -1,6 +1,6 @@
 -- What is queued of a unit's long messages to all in a long time.
 use Rattle.std.proofs.Common.{◌≡◌, ◌≢◌, ℕ, ◌+◌, ◌*◌, ◌<◌, ◌≤◌, ◌⊎◌, Bool, true, false, not, cond, ◌&&◌, eqb, leb, ltb, if◌then◌else◌}
-use Rattle.std.proofs.Common.{List, get_or, map, All, Option, Some, None}
+use Rattle.std.proofs.Common.{List, get_or, map, max, All, Option, Some, None}
 use Rattle.std.proofs.Common.{refl, sym, ap, ◌∙◌, subst, inl, inr, arith}
 use Rattle.std.proofs.Math.Nat.{mul-le-mul_right}
 use Rattle.std.proofs.lemmas.Nat.{mul-le}
