@@ -1,5 +1,5 @@
 -- Requests that ask for no more than a flow's period lets: the sum of fractions that is found, as laws of schedules have it.
-use Rattle.std.proofs.Common.{◌≡◌, ℕ, zero, suc, ◌+◌, ◌*◌, ◌/◌, ◌<◌, ◌≤◌, Bool, false, ltb, List, [], ◌∷◌, length, get_or, refl, sym, ap, ◌∙◌, subst, arith, inl, inr}
+use Rattle.std.proofs.Common.{◌≡◌, ℕ, zero, suc, ◌+◌, ◌*◌, ◌<◌, ◌≤◌, false, ltb, List, [], ◌∷◌, length, get_or, refl, sym, ap, ◌∙◌, arith, inl, inr}
 use Rattle.std.proofs.Math.Nat.{mul-le-mul_left, mul-le-mul_right, div-mul-le_self}
 use Rattle.std.proofs.lemmas.Bool.{both_ways, cases_lt, lt-ltb}
 use Rattle.j39_network.specs.declared.plan.timing.Bitrate.{Bitrate}
@@ -8,8 +8,8 @@ use Rattle.j39_network.specs.declared.plan.timing.Timing.{Timing}
 use Rattle.j39_load.specs.AskedFlows.{asked_parts, is_more_than_one, whole_parts}
 use Rattle.j39_load.specs.AskingTimes.{bit_parts, ms_parts, requesters_each}
 use Rattle.j39_load.specs.Clocks.{bit_time, longest_million, shortest_million}
-use Rattle.j39_load.specs.Loads.{bits_at_least, bits_of_ms, bits_per_ms}
-use Rattle.j39_timing.specs.AnsweredRequests.{AskNoOftenerThan, Requesters}
+use Rattle.j39_load.specs.Loads.{bits_at_least, bits_per_ms}
+use Rattle.j39_timing.specs.AnsweredRequests.{AskNoOftenerThan}
 use Rattle.j39_timing.specs.Sums.{total}
 
 -- ---- sums

@@ -1,8 +1,8 @@
 -- Buses on which each message that comes only as an answer answers one request of the flow's first one, at its own release: these keep to what is asked of
 -- answers.
-use Rattle.std.proofs.Common.{◌≡◌, ℕ, zero, suc, ◌+◌, ◌-◌, ◌*◌, ◌<◌, ◌≤◌, max, Bool, true, false, not, ◌&&◌, eqb, cond, if◌then◌else◌, List, [], ◌∷◌, length, get_or}
+use Rattle.std.proofs.Common.{◌≡◌, ℕ, zero, suc, ◌+◌, ◌-◌, ◌*◌, ◌<◌, ◌≤◌, Bool, true, false, not, ◌&&◌, eqb, cond, if◌then◌else◌, List, [], ◌∷◌, length, get_or}
 use Rattle.std.proofs.Common.{Option, Some, None, is_some, refl, sym, ap, ◌∙◌, subst, arith}
-use Rattle.std.proofs.Math.Nat.{mul-le-mul_left, mul-le-mul_right}
+use Rattle.std.proofs.Math.Nat.{mul-le-mul_right}
 use Rattle.std.proofs.lemmas.Bool.{and_parts, false≢true}
 use Rattle.std.proofs.lemmas.Option.{none-some, same_Some}
 use Rattle.std.specs.List.{cons_option, slice_get}
@@ -17,10 +17,9 @@ use Rattle.j39_load.specs.AnswerStreams.{answered_within}
 use Rattle.j39_load.specs.AskedFlows.{asked_every, asking_periods, is_answering, is_asked_too_often}
 use Rattle.j39_load.specs.KeepsAnswers.{AnswerRequests, Answered, IsAnswering, IsAskedEvery, IsFrameOfFlow, IsOfFlow, KeepsAnswers, answered_in}
 use Rattle.j39_load.specs.KeepsBroadcasts.{KeepsBroadcasts}
-use Rattle.j39_load.specs.Loads.{bits_per_ms}
 use Rattle.j39_load.specs.SentFrames.{FrameSources, Held, IsFrameOf, IsMsBehind, IsWithinUnitMs, Source}
 use Rattle.j39_load.specs.SentFrames.{Single, First, InSession, Asking, Announcing, Carrying}
-use Rattle.j39_load.specs.Clocks.{bit_time, longest_million, shortest_million}
+use Rattle.j39_load.specs.Clocks.{longest_million}
 use Rattle.j39_load.proofs.Milliseconds.{in_ms_behind}
 use Rattle.j39_timing.specs.Rounds.{all_planned}
 use Rattle.j39_timing.specs.TimedFrames.{Schedule}

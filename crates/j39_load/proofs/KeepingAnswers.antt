@@ -1,9 +1,9 @@
 -- On a bus that keeps to a plan in the plan's own words messages that come only as answers are no more than are asked for.
-use Rattle.std.proofs.Common.{◌≡◌, ℕ, zero, suc, ◌+◌, ◌-◌, ◌*◌, ◌<◌, ◌≤◌, Bool, true, false, not, ◌&&◌, eqb, cond, if◌then◌else◌, List, [], ◌∷◌, length, get_or}
+use Rattle.std.proofs.Common.{◌≡◌, ℕ, zero, suc, ◌+◌, ◌-◌, ◌*◌, ◌<◌, ◌≤◌, Bool, true, false, not, ◌&&◌, eqb, if◌then◌else◌, List, [], ◌∷◌, length, get_or}
 use Rattle.std.proofs.Common.{ltb, Option, Some, None, is_some, refl, sym, ap, ◌∙◌, subst, inl, inr, arith}
 use Rattle.std.proofs.Math.Nat.{mul-le-mul_right}
 use Rattle.std.proofs.lemmas.Bool.{and_parts, both_ways, cases_lt, lt-ltb, ne_eqb, true≢false}
-use Rattle.std.proofs.lemmas.Option.{get_or_from_slice_get, none-some, same_Some, slice_get_within}
+use Rattle.std.proofs.lemmas.Option.{none-some, same_Some}
 use Rattle.std.specs.List.{cons_option, filter_map, slice_get}
 use Rattle.std.specs.Option.{option_map_or}
 use Rattle.j39_network.specs.Serving.{serves}
@@ -18,7 +18,7 @@ use Rattle.j39_load.specs.AnswerStreams.{askers_of}
 use Rattle.j39_load.specs.AskedFlows.{asked_every, asked_parts, asking_periods, is_answering, is_more_than_one, whole_parts}
 use Rattle.j39_load.specs.AskingTimes.{bit_parts, ms_parts, requesters_each}
 use Rattle.j39_load.specs.Clocks.{bit_time, longest_million, shortest_million}
-use Rattle.j39_load.specs.KeepsAnswers.{AnswerRequests, Answered, IsAnswering, IsAskedEvery}
+use Rattle.j39_load.specs.KeepsAnswers.{AnswerRequests, Answered, IsAskedEvery}
 use Rattle.j39_load.specs.SentFrames.{IsWithinUnitMs}
 use Rattle.j39_load.proofs.AnswerTimes.{ask_no_oftener}
 use Rattle.j39_load.specs.Loads.{bits_at_least}

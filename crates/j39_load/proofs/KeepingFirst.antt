@@ -10,7 +10,6 @@ use Rattle.j39_network.specs.declared.plan.group_plan.GroupPlan.{GroupPlan}
 use Rattle.j39_network.specs.declared.plan.pace.Pace.{Pace}
 use Rattle.j39_network.specs.declared.plan.timing.Timing.{Timing}
 use Rattle.j39_load.specs.KeepsPlan.{CanBeKept}
-use Rattle.j39_load.specs.Loads.{bits_per_ms}
 use Rattle.j39_load.specs.SentFrames.{First, Held, IsFirstFrame, goes_to}
 use Rattle.j39_load.proofs.KeepingPlanned.{IsAskedSeldom, planned_address, planned_held, planned_receiver, planned_sender, room_for, source_can_be_kept}
 use Rattle.j39_load.proofs.Milliseconds.{at_once}

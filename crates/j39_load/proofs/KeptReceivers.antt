@@ -36,7 +36,7 @@ use Rattle.j39_timing.specs.Waits.{IsSpaced, askers_want}
 use Rattle.j39_load.proofs.BoundedFlows.{sent_in_any_order}
 use Rattle.j39_load.proofs.KeepingTurns.{broadcasts_in_any_order}
 use Rattle.j39_load.proofs.Milliseconds.{before_bits, in_each_ms, least_inside, within_bits}
-use Rattle.j39_load.proofs.PlacedFrames.{at_place, carrying_read, load, own, unit_asks}
+use Rattle.j39_load.proofs.PlacedFrames.{at_place, carrying_read, load, unit_asks}
 use Rattle.j39_load.proofs.PositivePeriods.{all_paced}
 use Rattle.j39_load.proofs.Sending.{all_sent}
 use Rattle.j39_load.proofs.StreamsBefore.{none_of_two}

@@ -28,14 +28,13 @@ use Rattle.j39_load.specs.declared.loads.unit_load.UnitLoad.{UnitLoad}
 use Rattle.j39_load.specs.Asked.{announcements_of_unit, asked_of, frames_asked, frames_of_flow, frames_of_request, own_frames, packets_of_unit, singles_of_flow}
 use Rattle.j39_load.specs.Broadcasts.{broadcast_by, broadcast_from, broadcasts_by, known_unit_load, least_announced, least_packets, unit_loads_of}
 use Rattle.j39_load.specs.Damage.{damage_frames, damage_stream, first_of_all}
-use Rattle.j39_load.specs.Loads.{bits_at_least, bits_inside, flow_load, has_short, is_always_short, load_of_messages, long_messages}
+use Rattle.j39_load.specs.Loads.{bits_at_least, bits_inside, has_short, is_always_short, load_of_messages, long_messages}
 use Rattle.j39_load.specs.AnswerStreams.{askers_of, load_for, messages_for}
 use Rattle.j39_load.specs.FlowLoads.{asked_load, load_of_flow, loads_of}
 use Rattle.j39_load.specs.Loads.{limit_by, single_frames, time_limit}
 use Rattle.j39_load.specs.RequestLoads.{load_of_request, request_load, request_loads_of}
 use Rattle.j39_load.proofs.Milliseconds.{some_bits, some_inside}
 use Rattle.j39_timing.specs.FrameBits.{error_frame, longest_frame}
-use Rattle.j39_timing.specs.Traffic.{IsSingle}
 
 -- what the messages of a flow have, of this limit
 abbrev pub ArePaced : ℕ → Messages → Type 0

@@ -1,5 +1,5 @@
 -- What is asked of the bus by a flow that answers requests: as many messages as are asked for, each of them so long behind its request at most.
-use Rattle.std.specs.Prelude.{ℕ, zero, suc, ◌-◌, max, Bool, if◌then◌else◌, List, length, Option, None, Some, is_some}
+use Rattle.std.specs.Prelude.{ℕ, zero, suc, ◌-◌, max, Bool, if◌then◌else◌, List, length, Option, Some, is_some}
 use Rattle.std.specs.Option.{option_map}
 use Rattle.j39_network.specs.declared.plan.flow_plan.FlowPlan.{FlowPlan}
 use Rattle.j39_network.specs.declared.plan.pace.Pace.{Pace}

@@ -10,7 +10,7 @@ use Rattle.j39_network.specs.declared.plan.request_plan.RequestPlan.{RequestPlan
 use Rattle.j39_network.specs.declared.plan.timing.Timing.{Timing}
 use Rattle.j39_load.specs.AnswerStreams.{answered_within}
 use Rattle.j39_load.specs.AskedFlows.{is_answering, is_asked_too_often}
-use Rattle.j39_load.specs.SentFrames.{FrameSources, IsMsBehind, IsWithinUnitMs, Part, Source}
+use Rattle.j39_load.specs.SentFrames.{FrameSources, IsMsBehind, IsWithinUnitMs, Source}
 use Rattle.j39_load.specs.SentFrames.{Single, First, InSession, Asking, Announcing, Carrying}
 use Rattle.j39_timing.specs.TimedFrames.{Schedule}
 

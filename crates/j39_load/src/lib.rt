@@ -20,10 +20,10 @@ pub use laws::{
     kept_plans_are_in_time, kept_plans_bring_values_in_time, kept_plans_keep_reported_times,
     kept_plans_lose_no_receiver, kept_plans_meet_deadlines, loads_hold_in_the_long_run,
     long_messages_can_be_sent_whole, long_messages_take_the_frames_reported,
-    needed_values_are_read_in_time, needs_stay_fresh, requests_ask_no_oftener, plans_can_be_kept,
+    needed_values_are_read_in_time, needs_stay_fresh, plans_can_be_kept,
     plans_can_be_kept_together, plans_can_be_kept_whole, plans_can_be_kept_without_a_unit,
-    plans_in_order, serial_numbers_change_no_load, short_flows_have_different_identifiers,
-    written_bytes_are_reported,
+    plans_in_order, requests_ask_no_oftener, serial_numbers_change_no_load,
+    short_flows_have_different_identifiers, written_bytes_are_reported,
 };
 pub use live_claims::timing_of;
 pub use loads::{FlowLoad, Loads, RequestLoad, UnitLoad, answered_within, askers_of};

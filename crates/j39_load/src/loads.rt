@@ -18,8 +18,8 @@ mod request_load;
 mod requests;
 mod unit_load;
 
-pub use answers::{answered_within, askers_of};
 use crate::frames::{PlannedBus, load_of_damage};
+pub use answers::{answered_within, askers_of};
 use broadcasts::unit_loads_of;
 pub use flow_load::FlowLoad;
 use flow_loads::loads_of;

@@ -52,8 +52,10 @@ fn answers_want(timing: Timing, pace: Pace, frames: u16, more: u16) -> Want
     Want {
         frames,
         period: bits_at_least(timing, pace.period),
-        jitter: bits_at_most(timing, answered_within(pace))
-            .saturating_sub(bits_at_most(timing, pace.jitter)),
+        jitter: bits_at_most(timing, answered_within(pace)).saturating_sub(bits_at_most(
+            timing,
+            pace.jitter,
+        )),
         more,
     }
 }
@@ -117,12 +119,7 @@ fn broadcast_for(timing: Timing, pace: Pace, askers: u16, broadcast: Broadcast) 
 }
 
 /// The messages of a flow for which so many ask.
-pub(crate) fn messages_for(
-    timing: Timing,
-    pace: Pace,
-    askers: u16,
-    messages: Messages,
-) -> Messages
+pub(crate) fn messages_for(timing: Timing, pace: Pace, askers: u16, messages: Messages) -> Messages
     requires sound { AreSoundMessages messages }
     requires few { HaveFewFrames messages }
     ensures messages { result ≡ messages_for timing pace askers messages }
