@@ -22,7 +22,7 @@ use Rattle.j39_load.specs.KeepsPlan.{KeepsQueues, KeepsToPlan, KeptBus}
 use Rattle.j39_load.specs.Loads.{bits_per_ms}
 use Rattle.j39_load.specs.SentFrames.{FrameSources, HasPeriodMs, IsMsBehind, IsSingleFrame, Single, goes_to}
 use Rattle.j39_load.proofs.KeepingApart.{few_ident}
-use Rattle.j39_load.proofs.KeepingPlanned.{keeps_all, keeps_queues, no_broadcasts, none_sent, period_is, planned_address, planned_controllers, planned_held, planned_single}
+use Rattle.j39_load.proofs.KeepingPlanned.{answer_nothing, keeps_all, keeps_queues, no_broadcasts, none_sent, period_is, planned_address, planned_controllers, planned_held, planned_single}
 use Rattle.j39_load.proofs.Milliseconds.{at_once, in_ms_behind}
 use Rattle.j39_load.proofs.Slots.{ends_before}
 use Rattle.j39_audit_laws.specs.LoggedBuses.{IsOftenSent}
@@ -176,6 +176,7 @@ module _ (plan : Plan) (timing : Timing) (apart : ArePlannedApart (units_of plan
 
   pub late_keeps : KeepsToPlan plan timing bus all_planned late_sent (planned_held plan apart)
   late_keeps = keeps_all plan timing apart bus late_sent (λ p in_p. late_frame p) (λ p q ms differ same every. either_later p q ms differ every)
+      (answer_nothing plan timing bus late_sent f flow is.its is.unasked (λ p g own. own) (λ u. refl))
       (none_sent plan timing bus all_planned late_sent (λ u. refl) (λ p u m same. cc) (λ p u m k same. cc))
 
   pub late_queues : KeepsQueues plan timing bus (planned_controllers plan (λ p. flow.sender)) all_planned late_sent

@@ -388,7 +388,7 @@ module _ (s : Settings) (apart : ArePlannedApart (units_of s.plan)) (written tim
   }
 
   its_period : HasPeriodMs s.plan f pace.period
-  its_period = record { flow = flow; its = is.its; pace = pace; paced = is.paced; is = refl }
+  its_period = record { flow = flow; its = is.its; pace = pace; paced = is.paced; is = refl; unasked = is.unasked }
 
   keeps_period : KeepsItsPeriod s.plan timing bus (planned_held s.plan apart) f pace.period (late_sent s.plan timing apart f flow pace group is).release (λ p. true)
   unfolding its_period

@@ -15,6 +15,7 @@ use Rattle.j39_network.specs.declared.plan.pace.Pace.{Pace}
 use Rattle.j39_network.specs.declared.plan.timing.Timing.{Timing}
 use Rattle.j39_tp.specs.declared.packet.Packet.{Packet}
 use Rattle.j39_world.specs.HeldAddresses.{ArePlannedApart}
+use Rattle.j39_load.specs.AskedFlows.{is_answering}
 use Rattle.j39_load.specs.Clocks.{bit_time}
 use Rattle.j39_load.specs.KeepsPlan.{KeptBus}
 use Rattle.j39_load.specs.SentFrames.{Single, goes_to}
@@ -28,7 +29,8 @@ use Rattle.j39_audit_laws.specs.MarkRecords.{KeepsTime}
 use Rattle.j39_audit_laws.specs.OwnPart.{AreItsOwn}
 use Rattle.j39_audit_laws.specs.PauseLines.{FrameLine, time_there}
 
--- a flow each message of which goes in one frame, with a period of less than a second, of a group whose number is none of the network's own
+-- a flow each message of which goes in one frame, with a period of less than a second, of a group whose number is none of the network's own; and it
+-- doesn't come only as an answer to requests that have a period
 pub record IsOftenSent (plan : Plan) (f : ℕ) (flow : FlowPlan) (pace : Pace) (group : GroupPlan) : Type 0 where
   pub its : slice_get plan.flows.items f ≡ Some flow
   pub paced : flow.pace ≡ Some pace
@@ -37,6 +39,7 @@ pub record IsOftenSent (plan : Plan) (f : ℕ) (flow : FlowPlan) (pace : Pace) (
   pub short : group.most ≤ 8
   pub number : IsPgn group.pgn
   pub own : is_service group.pgn ≡ false
+  pub unasked : is_answering plan.requests.items flow ≡ false
 
 -- a frame of the flow, from its planned address, to the planned one of its receiver
 pub record IsFrameOfFlow (plan : Plan) (flow : FlowPlan) (group : GroupPlan) (frame : Frame) : Type 0 where

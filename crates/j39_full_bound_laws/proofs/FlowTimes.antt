@@ -10,7 +10,7 @@ use Rattle.j39_load.specs.Asked.{asked_of, total_load}
 use Rattle.j39_load.specs.BusTimes.{timing_of, with_claims}
 use Rattle.j39_load.specs.LiveClaims.{unplanned_of}
 use Rattle.j39_load.specs.LoadFindings.{AsksOfBus}
-use Rattle.j39_load.specs.Loads.{load_of_flow}
+use Rattle.j39_load.specs.FlowLoads.{load_of_flow}
 use Rattle.j39_load.specs.inside.FewClaims.{few_unplanned}
 use Rattle.j39_variants.specs.VariantPlans.{flags, group_places, moved_flow, picked, unit_places}
 use Rattle.j39_variants.specs.declared.line.ProductLine.{ProductLine}

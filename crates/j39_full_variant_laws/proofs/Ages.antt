@@ -17,7 +17,8 @@ use Rattle.j39_load.specs.Ages.{ages_for, ages_of, is_in_limit, is_too_old, leas
 use Rattle.j39_load.specs.LineLists.{lines_of_each}
 use Rattle.j39_load.specs.LoadFindings.{AsksOfBus}
 use Rattle.j39_load.specs.Clocks.{bit_time, longest_million, million}
-use Rattle.j39_load.specs.Loads.{load_of_flow, us_of_bits, us_of_unit_ms}
+use Rattle.j39_load.specs.FlowLoads.{load_of_flow}
+use Rattle.j39_load.specs.Loads.{us_of_bits, us_of_unit_ms}
 use Rattle.j39_load.specs.declared.waits.delay.Delay.{Delay}
 use Rattle.j39_load.specs.declared.waits.delay.Delay.TheVariants.{Beyond, Late, Long, Whole, Within}
 use Rattle.j39_part_laws.specs.PartDelays.{IsNoLater}

@@ -12,7 +12,7 @@ use Rattle.j39_load.specs.Delays.{HasDelay}
 use Rattle.j39_load.specs.LineLists.{lines_of_each}
 use Rattle.j39_load.proofs.ReportedLines.{of_asked}
 use Rattle.j39_load.specs.LoadFindings.{all_findings, AreLoadFindings, flows_asked_too_often, AsksOfBus, further_findings, lateness, load_findings, overload, without_period}
-use Rattle.j39_load.specs.Loads.{flow_load, load_of_flow}
+use Rattle.j39_load.specs.FlowLoads.{asked_load, load_of_flow}
 use Rattle.j39_load.specs.declared.findings.load_finding.LoadFinding.{LoadFinding}
 use Rattle.j39_load.specs.declared.findings.load_finding.LoadFinding.TheVariants.{NoPeriod, Overload, LateFlow, NeedTooOld, AskedTooOften}
 use Rattle.j39_load.specs.declared.loads.flow_load.FlowLoad.{FlowLoad}
@@ -48,9 +48,9 @@ module _ (plan : Plan) (timing : Timing) (stays : UnitPlan → Bool) (ds : List 
       → (l : FlowLoad) × (load_of_flow timing plan stays flow ≡ Some l)
   load_is f flow at_f pace paced =
       let (group, at_group) = value_at plan.groups.items flow.group (all_at (λ (x : FlowPlan). x.group < length plan.groups.items) plan.flows.items plan.flow_groups f flow at_f) in (
-        flow_load timing plan.units.items stays flow pace group,
-        ap (option_and_then (λ p. option_map (flow_load timing plan.units.items stays flow p) (slice_get plan.groups.items flow.group))) paced
-            ∙ ap (option_map (flow_load timing plan.units.items stays flow pace)) at_group,
+        asked_load timing plan.requests.items plan.units.items stays flow pace group,
+        ap (option_and_then (λ p. option_map (asked_load timing plan.requests.items plan.units.items stays flow p) (slice_get plan.groups.items flow.group))) paced
+            ∙ ap (option_map (asked_load timing plan.requests.items plan.units.items stays flow pace)) at_group,
       )
 
   unpaced_by : (f : ℕ) (flow : FlowPlan) → slice_get plan.flows.items f ≡ Some flow → slice_get (map (load_of_flow timing plan stays) plan.flows.items) f ≡ Some None
@@ -67,7 +67,7 @@ module _ (plan : Plan) (timing : Timing) (stays : UnitPlan → Bool) (ds : List 
       → HasDelay timing (asked_of timing plan stays) f d → d ≡ None
   no_delay f flow at_f unpaced None has = refl
   no_delay f flow at_f unpaced (Some delay) (buffering, is, (l, is_l, rest)) =
-      absurd (none-some l (ap (option_and_then (λ p. option_map (flow_load timing plan.units.items stays flow p) (slice_get plan.groups.items flow.group))) (sym unpaced)
+      absurd (none-some l (ap (option_and_then (λ p. option_map (asked_load timing plan.requests.items plan.units.items stays flow p) (slice_get plan.groups.items flow.group))) (sym unpaced)
       ∙ same_Some _ _ (sym (asked_at f flow at_f) ∙ is_l)))
 
   has_delay : (f : ℕ) → f < length ds → HasDelay timing (asked_of timing plan stays) f (slice_index_or ds f None)

@@ -27,7 +27,8 @@ use Rattle.j39_load.specs.Ages.{ages_for, ages_of, is_in_limit, is_too_old, leas
 use Rattle.j39_load.specs.FreshNeeds.{AreNeedAgesBounds, AreNeedsFresh, IsNeedFresh}
 use Rattle.j39_load.specs.LoadFindings.{AreLoadFindings, AsksOfBus, flows_asked_too_often, further_findings, load_findings}
 use Rattle.j39_load.specs.Asked.{asked_of, total_load}
-use Rattle.j39_load.specs.Loads.{load_of_flow, loads_of, us_of_bits, us_of_unit_ms}
+use Rattle.j39_load.specs.Loads.{us_of_bits, us_of_unit_ms}
+use Rattle.j39_load.specs.FlowLoads.{load_of_flow, loads_of}
 use Rattle.j39_load.specs.LineLists.{lines_of_each}
 use Rattle.j39_load.proofs.BoundedFlows.{bounded}
 use Rattle.j39_load.proofs.LeastKnown.{least_of_both}

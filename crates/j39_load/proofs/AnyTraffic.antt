@@ -2,7 +2,7 @@
 use Rattle.std.proofs.Common.{◌≡◌, ℕ, suc, ◌+◌, ◌*◌, ◌-◌, ◌<◌, ◌≤◌, Bool, true, false, not, cond, ◌&&◌, ◌||◌, eqb, ltb, if◌then◌else◌, List, []}
 use Rattle.std.proofs.Common.{◌∷◌, ◌++◌, length, get_or, All, IfSome, unwrap_or, is_some, Option, Some, None, refl, sym, ap, ◌∙◌, subst, inl, inr}
 use Rattle.std.proofs.Common.{option_map, arith}
-use Rattle.std.proofs.lemmas.Bool.{and_parts, both_ways, cases_Bool, cases_lt, false≢true, lt-ltb, ltb-true, or_cases}
+use Rattle.std.proofs.lemmas.Bool.{and_parts, both_ways, cases_Bool, cases_lt, eqb-true, false≢true, lt-ltb, ltb-true, or_cases}
 use Rattle.std.proofs.lemmas.Bool.{true≢false}
 use Rattle.std.proofs.lemmas.List.{get_or-append-add, get_or_append_left, get_or_past}
 use Rattle.std.specs.Option.{option_map_or}
@@ -13,7 +13,8 @@ use Rattle.j39_load.specs.AnyQueues.{IsBuffering, Buffering, are_of_unit}
 use Rattle.j39_load.specs.AnyQueues.{buffered_for, keep_order, later_frames, may_be_passed, buffered}
 use Rattle.j39_load.specs.AnyQueues.{unbounded_at}
 use Rattle.j39_load.specs.Damage.{damage_frames}
-use Rattle.j39_load.specs.Delays.{blocking, need_of, streams_before}
+use Rattle.j39_load.specs.AnswerStreams.{are_asked_for}
+use Rattle.j39_load.specs.Delays.{blocking, blocking_of, need_of, streams_before}
 use Rattle.j39_load.specs.Demands.{demands_of}
 use Rattle.j39_load.specs.PlannedFrames.{AreFramesInAnyOrder, no_frames, others_of, planned_at, traffic_of}
 use Rattle.j39_load.specs.Twins.{are_twins, is_same, may_precede}
@@ -21,17 +22,18 @@ use Rattle.j39_load.proofs.DemandLaws.{demands_where_buffered, demands_with_dama
 use Rattle.j39_load.proofs.BufferingDelays.{buffered_read, one_each}
 use Rattle.j39_load.proofs.PositivePeriods.{HasPeriod}
 use Rattle.j39_load.proofs.Sending.{IsSent}
-use Rattle.j39_load.proofs.StreamsBefore.{all_before, get_or_inside, taken, with_damage}
+use Rattle.j39_load.proofs.StreamsBefore.{all_before, counts_before, get_or_inside, taken, with_damage}
 use Rattle.j39_timing.specs.AnyOrder.{Controllers, HaveWaits, IsLegalInAnyOrder, IsOrderedStream, later_by, buffered_traffic}
 use Rattle.j39_timing.specs.FrameBits.{longest_frame}
 use Rattle.j39_timing.specs.Messages.{AreSentWithin}
 use Rattle.j39_timing.specs.TimedFrames.{Schedule}
 use Rattle.j39_timing.specs.FrameStreams.{Origins}
 use Rattle.j39_timing.specs.Sums.{total}
-use Rattle.j39_timing.specs.Traffic.{AreQueuedBehind, AreSteady, DemandFits, IsSingle, IsStreamInTime, delay_of, others_before}
-use Rattle.j39_timing.specs.Waits.{Demand, lesser_share, need}
+use Rattle.j39_timing.specs.Traffic.{AreQueuedBehind, AreSteady, DemandFits, IsSingle, IsStreamInTime, OwnDemandFits, delay_of, others_before}
+use Rattle.j39_timing.specs.Waits.{Demand, IsSpaced, lesser_share, need}
+use Rattle.j39_timing.specs.declared.wants.Want.{Want}
 use Rattle.j39_timing.specs.declared.stream.Stream.{Stream}
-use Rattle.j39_timing.proofs.Buffering.{ordered_behind, ordered_in_time}
+use Rattle.j39_timing.proofs.Buffering.{ordered_behind, ordered_in_time, own_ordered_in_time}
 use Rattle.j39_timing.proofs.Sums.{total-le}
 use Rattle.j39_load.proofs.QueueGroupFrames.{begun, found, least_within, positive, read, unordered_of, wait_of_queue_group}
 
@@ -50,13 +52,13 @@ module _ (timing : Timing) (asked : List (Option FlowFrames)) (paced : All HasPe
     later = buffered waits asked ++ damage_frames timing
 
     abbrev part : FlowFrames → ℕ → ℕ → ℕ
-    part f w j = cond (not (eqb j i) && may_precede own f) (lesser_share demands span (later_by w f.stream)) 0
+    part f w j = cond (counts_before i own j f) (lesser_share demands span (later_by w f.stream)) 0
 
     length_buffered : length (buffered waits asked) ≡ length asked
     length_buffered = one_each (λ (p : ℕ) (x : Option FlowFrames). option_map (later_frames (buffered_for waits p)) x) 0 asked
 
     none_part : (w j : ℕ) → part no_frames w j ≤ 0
-    none_part w j = elim (not (eqb j i) && may_precede own no_frames) as (λ e. cond e (lesser_share demands span (later_by w no_frames.stream)) 0 ≤ 0) [
+    none_part w j = elim (counts_before i own j no_frames) as (λ e. cond e (lesser_share demands span (later_by w no_frames.stream)) 0 ≤ 0) [
       | true ↦ omega arith
       | false ↦ omega arith
     ]
@@ -76,7 +78,7 @@ module _ (timing : Timing) (asked : List (Option FlowFrames)) (paced : All HasPe
         (get_or_append_left (buffered waits asked) (damage_frames timing) None j (omega (arith, below, length_buffered))
         ∙ buffered_read waits asked j below ∙ ap (option_map (later_frames (buffered_for waits j))) at) in
         subst (λ (f : FlowFrames). part f (buffered_for waits j) j ≤ taken demands later i own span j) (sym here)
-        (subst (λ (f : FlowFrames). part x (buffered_for waits j) j ≤ cond (not (eqb j i) && may_precede own f) (lesser_share demands span f.stream) 0) (sym there)
+        (subst (λ (f : FlowFrames). part x (buffered_for waits j) j ≤ cond (counts_before i own j f) (lesser_share demands span f.stream) 0) (sym there)
         (omega arith))
 
     behind : (n : ℕ) → part (planned_at all (length asked + n)) (buffered_for waits (length asked + n)) (length asked + n)
@@ -92,10 +94,10 @@ module _ (timing : Timing) (asked : List (Option FlowFrames)) (paced : All HasPe
         ap (λ (x : Option ℕ). unwrap_or x 0) (get_or_past waits (length asked + n) None (omega (arith, count))) in
         let f : FlowFrames = planned_at all (length asked + n) in
         subst (λ (g : FlowFrames). part (planned_at all (length asked + n)) (buffered_for waits (length asked + n)) (length asked + n)
-        ≤ cond (not (eqb (length asked + n) i) && may_precede own g) (lesser_share demands span g.stream) 0) (sym same)
+        ≤ cond (counts_before i own (length asked + n) g) (lesser_share demands span g.stream) 0) (sym same)
         (subst (λ (w : ℕ). part (planned_at all (length asked + n)) w (length asked + n)
-        ≤ cond (not (eqb (length asked + n) i) && may_precede own (planned_at all (length asked + n))) (lesser_share demands span (planned_at all (length asked + n)).stream) 0)
-        (sym none) (no_later (planned_at all (length asked + n)) (not (eqb (length asked + n) i) && may_precede own (planned_at all (length asked + n)))))
+        ≤ cond (counts_before i own (length asked + n) (planned_at all (length asked + n))) (lesser_share demands span (planned_at all (length asked + n)).stream) 0)
+        (sym none) (no_later (planned_at all (length asked + n)) (counts_before i own (length asked + n) (planned_at all (length asked + n)))))
       where
         queued_late : Stream → ℕ → Stream
         queued_late x n = record { frames = x.frames; period = x.period; bits = x.bits; jitter = n; wanted = x.wanted }
@@ -137,19 +139,60 @@ module _ (timing : Timing) (asked : List (Option FlowFrames)) (paced : All HasPe
     pub placed : planned_at all i ≡ frames
     placed = with_damage timing asked i frames at
 
-    pub demand_fits : DemandFits (buffered_traffic (traffic_of all) (buffered_for buffering.waits)) (others_of timing) (longest_frame 8) i wait
-    demand_fits =
+    -- what counts at a place
+    abbrev its_share : ℕ → ℕ
+    its_share j = lesser_share (demands_of all) (wait + 1) (later_by (buffered_for buffering.waits j) (planned_at all j).stream)
+
+    needed : blocking_of timing frames + total (length all) (λ j. cond (counts_before i frames j (planned_at all j)) (its_share j) 0) ≤ wait
+    needed =
         let placed_need : need_of timing (buffered buffering.waits asked) i frames wait ≤ wait =
         subst (λ (xs : List (Option FlowFrames)). need_of timing xs i frames wait ≤ wait) buffering_delays.frames enough in
-        let needed : need (demands_of all) (blocking timing frames.greatest_ident) (streams_before timing i frames (buffered buffering.waits asked)) wait ≤ wait =
-        subst (λ (ds : List Demand). need ds (blocking timing frames.greatest_ident) (streams_before timing i frames (buffered buffering.waits asked)) wait ≤ wait)
+        let fits : need (demands_of all) (blocking_of timing frames) (streams_before timing i frames (buffered buffering.waits asked)) wait ≤ wait =
+        subst (λ (ds : List Demand). need ds (blocking_of timing frames) (streams_before timing i frames (buffered buffering.waits asked)) wait ≤ wait)
         (demands_where_buffered buffering.waits asked ∙ sym (demands_with_damage timing asked)) placed_need in
         let most = all_before (demands_of all) i frames (wait + 1) timing (buffered buffering.waits asked) in
         let parts = buffered_parts buffering.waits buffering_delays.bounded.count i frames (wait + 1) in
+        omega (arith, fits, most, parts)
+
+    one_foreign : (e m a : Bool) (x : ℕ) → cond (not e && m) x 0 ≤ cond (cond e a m) x 0
+    one_foreign true m a x = omega arith
+    one_foreign false m a x = omega arith
+
+    one_beside : (e m a : Bool) (x : ℕ) → (e ≡ true → a ≡ true) → cond (e || (not e && m)) x 0 ≤ cond (cond e a m) x 0
+    one_beside true m a x asks = let is = asks refl in rw (is) (omega arith)
+    one_beside false m a x asks = omega arith
+
+    pub demand_fits : IsSpaced frames.stream → DemandFits (buffered_traffic (traffic_of all) (buffered_for buffering.waits)) (others_of timing) (longest_frame 8) i wait
+    demand_fits spaced =
+        let fewer : total (length all) (λ j. cond (not (eqb j i) && may_precede frames (planned_at all j)) (its_share j) 0)
+        ≤ total (length all) (λ j. cond (counts_before i frames j (planned_at all j)) (its_share j) 0) =
+        total-le (length all) (λ j. cond (not (eqb j i) && may_precede frames (planned_at all j)) (its_share j) 0)
+        (λ j. cond (counts_before i frames j (planned_at all j)) (its_share j) 0)
+        (λ j below. one_foreign (eqb j i) (may_precede frames (planned_at all j)) (are_asked_for (planned_at all j)) (its_share j)) in
+        let blocks : blocking_of timing frames ≡ blocking timing frames.greatest_ident - 0 =
+        ap (λ (o : Option Want). blocking timing frames.greatest_ident - (if is_some o then frames.stream.bits else 0)) spaced in
+        let room = needed in
         subst (λ (own : FlowFrames). longest_frame 8 * (1 + others_before (others_of timing) own.greatest_ident)
-        + total (length all) (λ j. cond (not (eqb j i) && may_precede own (planned_at all j))
-        (lesser_share (demands_of all) (wait + 1) (later_by (buffered_for buffering.waits j) (planned_at all j).stream)) 0) ≤ wait) (sym placed)
-        (omega (arith, needed, most, parts))
+        + total (length all) (λ j. cond (not (eqb j i) && may_precede own (planned_at all j)) (its_share j) 0) ≤ wait) (sym placed)
+        (omega (arith, room, fewer, blocks))
+
+    -- where others of them may be queued at once
+    pub own_fits : are_asked_for frames ≡ true
+        → OwnDemandFits (buffered_traffic (traffic_of all) (buffered_for buffering.waits)) (others_of timing) (longest_frame 8) i wait
+    own_fits asks =
+        let here : (j : ℕ) → eqb j i ≡ true → are_asked_for (planned_at all j) ≡ true = λ j same.
+        subst (λ (k : ℕ). are_asked_for (planned_at all k) ≡ true) (sym (eqb-true j i same)) (subst (λ (f : FlowFrames). are_asked_for f ≡ true) (sym placed) asks) in
+        let fewer : total (length all) (λ j. cond (eqb j i || (not (eqb j i) && may_precede frames (planned_at all j))) (its_share j) 0)
+        ≤ total (length all) (λ j. cond (counts_before i frames j (planned_at all j)) (its_share j) 0) =
+        total-le (length all) (λ j. cond (eqb j i || (not (eqb j i) && may_precede frames (planned_at all j))) (its_share j) 0)
+        (λ j. cond (counts_before i frames j (planned_at all j)) (its_share j) 0)
+        (λ j below. one_beside (eqb j i) (may_precede frames (planned_at all j)) (are_asked_for (planned_at all j)) (its_share j) (here j)) in
+        let blocks : blocking_of timing frames ≡ blocking timing frames.greatest_ident - frames.stream.bits =
+        ap (λ (b : Bool). blocking timing frames.greatest_ident - (if b then frames.stream.bits else 0)) asks in
+        let room = needed in
+        subst (λ (own : FlowFrames). longest_frame 8 * (1 + others_before (others_of timing) own.greatest_ident)
+        + total (length all) (λ j. cond (eqb j i || (not (eqb j i) && may_precede own (planned_at all j))) (its_share j) 0) ≤ wait + own.stream.bits) (sym placed)
+        (omega (arith, room, fewer, blocks))
 
     -- each stream that may go before has a wait
     known_wait : (j : ℕ) (x : FlowFrames) → get_or asked j None ≡ Some x → x.least_ident < frames.greatest_ident
@@ -229,14 +272,22 @@ module _ (timing : Timing) (asked : List (Option FlowFrames)) (paced : All HasPe
       ordered_bound single fits =
           subst (λ (own : FlowFrames). IsStreamInTime s planned of i own.stream wait) placed
           (ordered_in_time s controllers legal (traffic_of all) (others_of timing) (longest_frame 8) planned of i wait known.known (positive timing asked paced sent) own_ordered
-          (buffered_for buffering.waits) have demand_fits (subst (λ (own : FlowFrames). IsSingle own.stream) (sym placed) single)
+          (buffered_for buffering.waits) have (demand_fits single.1) (subst (λ (own : FlowFrames). IsSingle own.stream) (sym placed) single)
           (subst (λ (own : FlowFrames). delay_of own.stream wait ≤ own.stream.period) (sym placed) fits))
 
-      pub ordered_sent : frames.twin_ident ≡ None → AreQueuedBehind s planned of i → AreSteady s planned of i → AreSentWithin s planned of i frames.stream wait
-      ordered_sent single after steady =
+      -- the same where others of them may be queued at once
+      pub asked_bound : are_asked_for frames ≡ true → frames.stream.bits ≤ longest_frame 8 → IsStreamInTime s planned of i frames.stream wait
+      asked_bound asks small =
+          subst (λ (own : FlowFrames). IsStreamInTime s planned of i own.stream wait) placed
+          (own_ordered_in_time s controllers legal (traffic_of all) (others_of timing) (longest_frame 8) planned of i wait known.known
+          (positive timing asked paced sent) own_ordered (buffered_for buffering.waits) have
+          (subst (λ (own : FlowFrames). own.stream.bits ≤ longest_frame 8) (sym placed) small) (own_fits asks))
+
+      pub ordered_sent : IsSpaced frames.stream → frames.twin_ident ≡ None → AreQueuedBehind s planned of i → AreSteady s planned of i → AreSentWithin s planned of i frames.stream wait
+      ordered_sent spaced single after steady =
           subst (λ (own : FlowFrames). AreSentWithin s planned of i own.stream wait) placed
           (ordered_behind s controllers legal (traffic_of all) (others_of timing) (longest_frame 8) planned of i wait known.known (positive timing asked paced sent) own_ordered
-          (buffered_for buffering.waits) have demand_fits alone after steady)
+          (buffered_for buffering.waits) have (demand_fits spaced) alone after steady)
         where
           alone : (j : ℕ) → (traffic_of all).are_twins i j ≡ false
           alone j = subst (λ (f : FlowFrames). are_twins f (planned_at all j) ≡ false) (sym placed)

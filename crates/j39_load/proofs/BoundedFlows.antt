@@ -18,22 +18,25 @@ use Rattle.j39_load.specs.declared.waits.whole_time.WholeTime.{WholeTime}
 use Rattle.j39_load.specs.AnyQueues.{IsBuffering, Buffering, keep_order, may_be_passed}
 use Rattle.j39_load.specs.Asked.{Asked, asked_of, frames_asked, total_load}
 use Rattle.j39_load.specs.Damage.{damage_frames}
-use Rattle.j39_load.specs.Delays.{HasDelay, IsDelay, IsDelayOf, IsDelayWithin, IsFrameDelay, IsShortDelay, IsWaitIn, IsWaitOf, any_delay, judged}
+use Rattle.j39_load.specs.Delays.{HasDelay, IsDelay, IsDelayOf, IsDelayWithin, IsFrameDelay, IsShortDelay, IsWaitIn, IsWaitOf, any_delay, judged, need_of}
 use Rattle.j39_load.specs.LoadFindings.{AsksOfBus, lateness, load_findings, overload, without_period}
-use Rattle.j39_load.specs.Loads.{loads_of}
+use Rattle.j39_load.specs.FlowLoads.{loads_of}
 use Rattle.j39_load.specs.LineLists.{lines_of_each}
 use Rattle.j39_load.specs.PlannedFrames.{AreAllOrdered, AreDelaysBounds, AreFramesInAnyOrder, AreFramesOfPlan, AreLateDelaysBounds, AreShortFlowsBounded}
 use Rattle.j39_load.specs.PlannedFrames.{ComeInAnyOrder, IsBounded, IsBoundedBeyond, IsInTimeInAnyOrder, IsInTimeOnEveryBus, no_frames, planned_at}
-use Rattle.j39_load.proofs.AnyTraffic.{ordered_bound, ordered_sent}
+use Rattle.j39_load.proofs.AnyTraffic.{asked_bound, ordered_bound, ordered_sent}
 use Rattle.j39_load.proofs.QueueGroupFrames.{any_in_time, any_sent, wait_of_queue_group}
 use Rattle.j39_load.proofs.PositivePeriods.{ArePaced, HasPeriod, of_loads, all_paced}
 use Rattle.j39_load.proofs.Sending.{IsSent, all_sent}
-use Rattle.j39_load.proofs.StreamsBefore.{none_of_two, own_read, stated_nothing}
+use Rattle.j39_load.proofs.StreamsBefore.{get_or_inside, none_of_two, own_read, stated_nothing}
 use Rattle.j39_timing.specs.AnyOrder.{Controllers, IsLegalInAnyOrder}
 use Rattle.j39_timing.specs.Messages.{AreSentWithin}
 use Rattle.j39_timing.specs.TimedFrames.{Schedule, IsLegal}
 use Rattle.j39_timing.specs.FrameStreams.{Origins}
-use Rattle.j39_timing.specs.Traffic.{IsSingle, delay_of}
+use Rattle.j39_timing.specs.Traffic.{IsStreamInTime, delay_of}
+use Rattle.j39_timing.specs.Waits.{IsSpaced, askers_want}
+use Rattle.j39_timing.specs.declared.wants.Want.{Want}
+use Rattle.std.specs.Option.{is_some}
 
 -- ---- buses on which every unit keeps order
 
@@ -118,6 +121,9 @@ judged_beyond frames limit time bits stated = go (leb time limit) refl stated
 module _ (timing : Timing) (asked : List (Option FlowFrames)) (paced : All HasPeriod (asked ++ damage_frames timing))
     (sent : All (λ (f : Option FlowFrames). IfSome f IsSent) asked) (buffering : Buffering) (is : IsBuffering timing asked buffering) (flow : ℕ) (frames : FlowFrames)
     (at : get_or asked flow None ≡ Some frames) (limit bits : ℕ) where
+  its_sent : IsSent frames
+  its_sent = subst (λ (o : Option FlowFrames). IfSome o IsSent) at (sent flow None (get_or_inside asked flow frames at))
+
   abbrev Bound : Type 0
   Bound = (wait : ℕ) × (bits ≡ delay_of frames.stream wait) × (bits ≤ limit) × IsInTimeInAnyOrder timing asked flow frames wait
 
@@ -125,9 +131,21 @@ module _ (timing : Timing) (asked : List (Option FlowFrames)) (paced : All HasPe
   BoundBeyond = (wait : ℕ) × (bits ≡ delay_of frames.stream wait) × (limit < bits) × (bits ≤ frames.stream.period)
       × IsInTimeInAnyOrder timing asked flow frames wait
 
+  -- whether others ask for them or not
+  by_askers : keep_order frames ≡ true → may_be_passed buffering frames.greatest_ident ≡ false → (wait : ℕ)
+      → need_of timing buffering.frames flow frames wait ≤ wait → (s : Schedule) (controllers : Controllers) (planned : ℕ → Bool) (of : Origins)
+      → IsLegalInAnyOrder s controllers → AreFramesInAnyOrder timing asked s controllers planned of flow → frames.stream.frames ≡ 1
+      → delay_of frames.stream wait ≤ frames.stream.period → (askers : Option Want) → askers_want frames.stream ≡ askers
+      → IsStreamInTime s planned of flow frames.stream wait
+  by_askers ordered passed wait fits s controllers planned of legal known single within None none =
+      ordered_bound timing asked paced sent buffering is flow frames at ordered passed wait fits s controllers planned of legal known (single, none) within
+  by_askers ordered passed wait fits s controllers planned of legal known single within (Some want) some =
+      asked_bound timing asked paced sent buffering is flow frames at ordered passed wait fits s controllers planned of legal known
+      (ap (λ (o : Option Want). is_some o) some) (its_sent.short)
+
   -- of a unit that keeps order, of a delay within some bits that are no more than the period
   by_delay : keep_order frames ≡ true → may_be_passed buffering frames.greatest_ident ≡ false → (most : ℕ)
-      → IsDelayWithin timing buffering.frames flow frames most bits → IsSingle frames.stream → most ≤ frames.stream.period
+      → IsDelayWithin timing buffering.frames flow frames most bits → frames.stream.frames ≡ 1 → most ≤ frames.stream.period
       → (wait : ℕ) × (bits ≡ delay_of frames.stream wait) × (bits ≤ most) × IsInTimeInAnyOrder timing asked flow frames wait
   by_delay ordered passed most (wait, inside, least, sum) single limited =
       let within = inside.within in (
@@ -135,19 +153,18 @@ module _ (timing : Timing) (asked : List (Option FlowFrames)) (paced : All HasPe
         sum,
         omega (arith, within, sum),
         λ s controllers planned of legal known.
-            ordered_bound timing asked paced sent buffering is flow frames at ordered passed wait inside.demand_fits s controllers planned of legal known single
-            (omega (arith, within, limited)),
+            by_askers ordered passed wait inside.demand_fits s controllers planned of legal known single (omega (arith, within, limited)) (askers_want frames.stream) refl,
       )
 
   ordered_frames : keep_order frames ≡ true → (passed : Bool) → may_be_passed buffering frames.greatest_ident ≡ passed
       → MatchBool passed (Within bits ≡ Late) (IsShortDelay timing buffering.frames flow frames limit (Within bits))
-      → IsSingle frames.stream → limit ≤ frames.stream.period → Bound
+      → frames.stream.frames ≡ 1 → limit ≤ frames.stream.period → Bound
   ordered_frames ordered true passed stated single limited = absurd (within_late bits stated)
   ordered_frames ordered false passed stated single limited = by_delay ordered passed limit stated single limited
 
   ordered_beyond : keep_order frames ≡ true → (passed : Bool) → may_be_passed buffering frames.greatest_ident ≡ passed
       → MatchBool passed (Beyond bits ≡ Late) (IsShortDelay timing buffering.frames flow frames limit (Beyond bits))
-      → IsSingle frames.stream → BoundBeyond
+      → frames.stream.frames ≡ 1 → BoundBeyond
   ordered_beyond ordered true passed stated single = absurd (beyond_late bits stated)
   ordered_beyond ordered false passed stated single =
       let (wait, sum, inside, bounds) = by_delay ordered passed frames.stream.period stated.1 single (omega arith) in
@@ -178,7 +195,7 @@ module _ (timing : Timing) (asked : List (Option FlowFrames)) (paced : All HasPe
       let (sum, above, inside) = judged_beyond frames limit (delay_of frames.stream w) bits stated in
       (w, sum, above, inside, by_wait kept w known_wait)
 
-  pub frames_bounded : IsFrameDelay timing buffering flow frames limit (Within bits) → IsSingle frames.stream → limit ≤ frames.stream.period → Bound
+  pub frames_bounded : IsFrameDelay timing buffering flow frames limit (Within bits) → frames.stream.frames ≡ 1 → limit ≤ frames.stream.period → Bound
   frames_bounded delayed single limited = go (keep_order frames) refl delayed
     where
       go : (keeps : Bool) → keep_order frames ≡ keeps
@@ -188,7 +205,7 @@ module _ (timing : Timing) (asked : List (Option FlowFrames)) (paced : All HasPe
       go true keeps stated = ordered_frames keeps (may_be_passed buffering frames.greatest_ident) refl stated single limited
       go false keeps stated = unordered_frames keeps (get_or buffering.waits flow None) refl stated
 
-  pub frames_beyond : IsFrameDelay timing buffering flow frames limit (Beyond bits) → IsSingle frames.stream → BoundBeyond
+  pub frames_beyond : IsFrameDelay timing buffering flow frames limit (Beyond bits) → frames.stream.frames ≡ 1 → BoundBeyond
   frames_beyond delayed single = go (keep_order frames) refl delayed
     where
       go : (keeps : Bool) → keep_order frames ≡ keeps
@@ -250,7 +267,7 @@ never_long timing buffering flow frames limit count =
 module _ (timing : Timing) (asked : List (Option FlowFrames)) (paced : All HasPeriod (asked ++ damage_frames timing))
     (sent : All (λ (f : Option FlowFrames). IfSome f IsSent) asked) (buffering : Buffering) (is : IsBuffering timing asked buffering) (place : ℕ) (frames : FlowFrames)
     (at : get_or asked place None ≡ Some frames) (wait : ℕ) (s : Schedule) (controllers : Controllers) (planned : ℕ → Bool) (of : Origins)
-    (legal : IsLegalInAnyOrder s controllers) (turn : ComeInAnyOrder timing asked s controllers planned of place) (single : frames.twin_ident ≡ None) where
+    (legal : IsLegalInAnyOrder s controllers) (turn : ComeInAnyOrder timing asked s controllers planned of place) (single : (frames.twin_ident ≡ None) × IsSpaced frames.stream) where
   here : planned_at asked place ≡ frames
   here = ap (λ (o : Option FlowFrames). unwrap_or o no_frames) at
 
@@ -259,7 +276,7 @@ module _ (timing : Timing) (asked : List (Option FlowFrames)) (paced : All HasPe
   ordered_turn ordered true passed stated = absurd (none-some wait (sym stated))
   ordered_turn ordered false passed stated =
       let keeps : keep_order (planned_at asked place) ≡ true = subst (λ (f : FlowFrames). keep_order f ≡ true) (sym here) ordered in
-      ordered_sent timing asked paced sent buffering is place frames at ordered passed wait stated.1 s controllers planned of legal turn.known single
+      ordered_sent timing asked paced sent buffering is place frames at ordered passed wait stated.1 s controllers planned of legal turn.known single.1 single.0
       (turn.behind keeps) (turn.steady keeps)
 
   unordered_turn : keep_order frames ≡ false → Some wait ≡ get_or buffering.waits place None → AreSentWithin s planned of place frames.stream wait

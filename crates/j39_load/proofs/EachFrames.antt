@@ -23,7 +23,9 @@ use Rattle.j39_load.specs.Asked.{announcements_of_unit, asked_of, frames_asked, 
 use Rattle.j39_load.specs.Asked.{wanting}
 use Rattle.j39_load.specs.Broadcasts.{broadcast_frames, broadcasts_by, known_unit_load, least_packets, unit_loads_of}
 use Rattle.j39_load.specs.Demands.{announcements_demand, packets_demand}
-use Rattle.j39_load.specs.Loads.{broadcast_of, has_short, is_always_short, load_of_flow, loads_of, long_messages, packet_frames, single_frames}
+use Rattle.j39_load.specs.Loads.{broadcast_of, has_short, is_always_short, long_messages, packet_frames, single_frames}
+use Rattle.j39_load.specs.AnswerStreams.{askers_of, broadcast_for, frames_for, messages_for}
+use Rattle.j39_load.specs.FlowLoads.{load_of_flow, loads_of}
 use Rattle.j39_load.specs.RequestLoads.{load_of_request, request_load, request_loads_of}
 use Rattle.j39_tp.specs.Chunks.{packets_of}
 
@@ -64,25 +66,28 @@ module _ (timing : Timing) (plan : Plan) (stays : UnitPlan → Bool) (P : FlowFr
     of_requests = All-map OfRequest (load_of_request timing plan.units.items stays) plan.requests.items
         (λ k d below. let request = get_or plan.requests.items k d in of_request request request.period)
 
-  module _ (single : (flow : FlowPlan) (pace : Pace) (group : GroupPlan) → P (single_frames timing plan.units.items stays flow pace group))
-      (session : (flow : FlowPlan) (v : ℕ) (pace : Pace) (packets : ℕ) → P (packet_frames timing plan.units.items stays flow v pace packets))
+  module _ (single : (flow : FlowPlan) (pace : Pace) (group : GroupPlan) (askers : ℕ)
+      → P (frames_for timing pace askers (single_frames timing plan.units.items stays flow pace group)))
+      (session : (flow : FlowPlan) (v : ℕ) (pace : Pace) (packets askers : ℕ)
+      → P (frames_for timing pace askers (packet_frames timing plan.units.items stays flow v pace packets)))
       (broadcast : (pgn u gaps place : ℕ) → P (broadcast_frames timing plan.units.items stays pgn u gaps place))
-      (wants : (flow : FlowPlan) (pace : Pace) (group : GroupPlan) → P (wanting (broadcast_of timing flow pace group)))
+      (wants : (flow : FlowPlan) (pace : Pace) (group : GroupPlan) (askers : ℕ) → P (wanting (broadcast_for timing pace askers (broadcast_of timing flow pace group))))
       (asking : (request : RequestPlan) (period : ℕ) → P (request_load timing plan.units.items stays request period).frames) where
     -- ---- of flows
 
-    long : (flow : FlowPlan) (pace : Pace) (group : GroupPlan) (to : To)
-        → Fits (own_frames (long_messages timing plan.units.items stays flow pace group to))
-    long flow pace group ToAllUnits = wants flow pace group
-    long flow pace group (One v) = session flow v pace (packets_of group.most)
+    long : (flow : FlowPlan) (pace : Pace) (group : GroupPlan) (askers : ℕ) (to : To)
+        → Fits (own_frames (messages_for timing pace askers (long_messages timing plan.units.items stays flow pace group to)))
+    long flow pace group askers ToAllUnits = wants flow pace group askers
+    long flow pace group askers (One v) = session flow v pace (packets_of group.most) askers
 
-    by_lengths : (flow : FlowPlan) (pace : Pace) (group : GroupPlan) (short has : Bool)
-        → Fits (own_frames (if short then Short (single_frames timing plan.units.items stays flow pace group)
-        else long_messages timing plan.units.items stays flow pace group flow.to))
-        × Fits (if not short && has then Some (single_frames timing plan.units.items stays flow pace group) else None)
-    by_lengths flow pace group true has = (single flow pace group, tt)
-    by_lengths flow pace group false true = (long flow pace group flow.to, single flow pace group)
-    by_lengths flow pace group false false = (long flow pace group flow.to, tt)
+    by_lengths : (flow : FlowPlan) (pace : Pace) (group : GroupPlan) (askers : ℕ) (short has : Bool)
+        → Fits (own_frames (messages_for timing pace askers (if short then Short (single_frames timing plan.units.items stays flow pace group)
+        else long_messages timing plan.units.items stays flow pace group flow.to)))
+        × Fits (option_map (frames_for timing pace askers)
+        (if not short && has then Some (single_frames timing plan.units.items stays flow pace group) else None))
+    by_lengths flow pace group askers true has = (single flow pace group askers, tt)
+    by_lengths flow pace group askers false true = (long flow pace group askers flow.to, single flow pace group askers)
+    by_lengths flow pace group askers false false = (long flow pace group askers flow.to, tt)
 
     abbrev OfFlow : Option FlowLoad → Type 0
     OfFlow load = Fits (frames_of_flow load) × Fits (singles_of_flow load)
@@ -91,7 +96,7 @@ module _ (timing : Timing) (plan : Plan) (stays : UnitPlan → Bool) (P : FlowFr
         → OfFlow (load_of_flow timing plan stays flow)
     of_flow flow None group paced at = rw (paced) (tt, tt)
     of_flow flow (Some pace) None paced at = rw (paced, at) (tt, tt)
-    of_flow flow (Some pace) (Some group) paced at = rw (paced, at) (by_lengths flow pace group (is_always_short group) (has_short group))
+    of_flow flow (Some pace) (Some group) paced at = rw (paced, at) (by_lengths flow pace group (askers_of plan.requests.items flow) (is_always_short group) (has_short group))
 
     of_flows : All OfFlow (loads_of timing plan stays)
     of_flows = All-map OfFlow (load_of_flow timing plan stays) plan.flows.items

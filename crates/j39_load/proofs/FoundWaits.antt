@@ -5,7 +5,7 @@ use Rattle.std.specs.Option.{ForSome}
 use Rattle.j39_network.specs.declared.plan.timing.Timing.{Timing}
 use Rattle.j39_load.specs.declared.frames.flow_frames.FlowFrames.{FlowFrames}
 use Rattle.j39_load.specs.AnyQueues.{IsWaitWith}
-use Rattle.j39_load.specs.Delays.{IsWaitOf, blocking, streams_before}
+use Rattle.j39_load.specs.Delays.{IsWaitOf, blocking_of, streams_before}
 use Rattle.j39_load.specs.Demands.{demands_of}
 use Rattle.j39_load.specs.Loads.{longest_wait}
 use Rattle.j39_timing.specs.Waits.{Demand, NoShorterFits, need}
@@ -43,7 +43,7 @@ module _ {ds es : List Demand} {a b : ℕ} {ss ts : List Stream} {m n : ℕ} (de
 -- that of frames at a place is one among the streams that go before them
 module _ (timing : Timing) (all : List (Option FlowFrames)) (i : ℕ) (frames : FlowFrames) where
   abbrev pub IsWaitAmong : Option ℕ → Type 0
-  IsWaitAmong wait = IsWaitWith timing (demands_of all) (streams_before timing i frames all) (blocking timing frames.greatest_ident) wait
+  IsWaitAmong wait = IsWaitWith timing (demands_of all) (streams_before timing i frames all) (blocking_of timing frames) wait
 
   pub wait_among : (wait : Option ℕ) → IsWaitOf timing all i frames wait → IsWaitAmong wait
   wait_among (Some wait) is = is

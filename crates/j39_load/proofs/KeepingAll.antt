@@ -19,6 +19,7 @@ use Rattle.j39_network.specs.declared.plan.to.To.{To}
 use Rattle.j39_network.specs.declared.plan.to.To.TheVariants.{All, One}
 use Rattle.j39_network.specs.declared.plan.unit_plan.UnitPlan.{UnitPlan}
 use Rattle.j39_search.proofs.Members.{all_at}
+use Rattle.j39_load.specs.KeepsAnswers.{IsAnswering, IsOfFlow}
 use Rattle.j39_load.specs.KeepsPlan.{KeepsQueues, KeepsToPlan}
 use Rattle.j39_load.specs.KeptTogether.{CanSendAll, HasBeenSent}
 use Rattle.j39_load.specs.Loads.{bits_per_ms}
@@ -30,7 +31,7 @@ use Rattle.j39_load.specs.SentFrames.{Announcing, Carrying, Single, First, InSes
 use Rattle.j39_load.proofs.KeepingApart.{few_bits}
 use Rattle.j39_load.proofs.KeepingOneToAll as one
 use Rattle.j39_load.proofs.KeepingOneToAll.{OneToAll}
-use Rattle.j39_load.proofs.KeepingPlanned.{keeps_queues, slots_kept, planned_address, planned_apart, planned_controllers, planned_held, planned_single}
+use Rattle.j39_load.proofs.KeepingPlanned.{IsAskedSeldom, keeps_queues, seldom_at, slots_kept, planned_address, planned_apart, planned_controllers, planned_held, planned_single}
 use Rattle.j39_load.proofs.KnownFrames.{one_to}
 use Rattle.j39_load.proofs.Milliseconds.{at_once, in_unit_ms, own_ms}
 use Rattle.j39_load.proofs.Slots.{ends_before, slots}
@@ -106,6 +107,7 @@ module _ (plan : Plan) (timing : Timing) (apart : ArePlannedApart (units_of plan
     (h : ℕ) (to_all : FlowPlan) (h_pace : Pace) (third : GroupPlan) (h_is : slice_get plan.flows.items h ≡ Some to_all) (h_paced : to_all.pace ≡ Some h_pace)
     (third_is : slice_get plan.groups.items to_all.group ≡ Some third) (h_long : 8 < third.most) (goes_to_all : to_all.to ≡ All) (more : ℕ) (two : 2 ≤ more)
     (shortest : third.length ≤ 7 * more) (longest : 7 * more < third.most + 7)
+    (seldom : IsAskedSeldom plan flow) (other_seldom : IsAskedSeldom plan other) (third_seldom : IsAskedSeldom plan to_all)
     (fits : (6 + (packets + more)) * (160 + timing.broadcast_gap * bits_per_ms timing.bitrate) * bit_time timing.bitrate ≤ 1000 * its_pace.period) where
   abbrev address : ℕ → ℕ
   address = planned_address plan apart
@@ -148,6 +150,41 @@ module _ (plan : Plan) (timing : Timing) (apart : ArePlannedApart (units_of plan
   release_of p Announces = p * width
   release_of p (Sends k) = p * width
 
+  -- the two flows with messages of one frame, and to one unit, are two
+  short_or_long : f ≡ g → ⊥
+  short_or_long same =
+      let flows : flow ≡ other = same_Some _ _ (sym its ∙ (ap (slice_get plan.flows.items) same ∙ other_is)) in
+      let groups : group ≡ second = same_Some _ _ (sym of ∙ (ap (λ (h : FlowPlan). slice_get plan.groups.items h.group) flows ∙ second_is)) in
+      let most : group.most ≡ second.most = ap (λ (h : GroupPlan). h.most) groups in
+      omega (arith, most, short, long)
+
+  seldom_of : (c : Choice) (k : ℕ) (answering : IsAnswering plan k) → IsOfFlow k (source_of f g r w c) → IsAskedSeldom plan answering.flow
+  seldom_of Alone k answering is = seldom_at plan f k flow its is seldom answering
+  seldom_of Asks k answering is = absurd is
+  seldom_of (Carries part) k answering is = seldom_at plan g k other other_is is other_seldom answering
+  seldom_of Announces k answering is = absurd is
+  seldom_of (Sends i) k answering is = absurd is
+
+  -- only the first slot has the single frame
+  alone_first : (p : ℕ) → choice packets p ≡ Alone → p ≡ 0
+  alone_first p is = sym (slot_stated packets f g r w p) ∙ ap (λ (c : Choice). slot_of packets (source_of f g r w c)) is
+
+  released_as : (p q k : ℕ) (a c : Choice) → choice packets p ≡ a → choice packets q ≡ c → IsOfFlow k (source_of f g r w a) → IsOfFlow k (source_of f g r w c)
+      → release_of p a ≡ release_of q c
+  released_as p q k Alone Alone at_p at_q is_p is_q = ap (λ (x : ℕ). x * width) (alone_first p at_p ∙ sym (alone_first q at_q))
+  released_as p q k Alone (Carries part) at_p at_q is_p is_q = absurd (short_or_long (is_p ∙ sym is_q))
+  released_as p q k (Carries part) Alone at_p at_q is_p is_q = absurd (short_or_long (is_q ∙ sym is_p))
+  released_as p q k (Carries part) (Carries other_part) at_p at_q is_p is_q = refl
+  released_as p q k Asks c at_p at_q is_p is_q = absurd is_p
+  released_as p q k Announces c at_p at_q is_p is_q = absurd is_p
+  released_as p q k (Sends i) c at_p at_q is_p is_q = absurd is_p
+  released_as p q k Alone Asks at_p at_q is_p is_q = absurd is_q
+  released_as p q k Alone Announces at_p at_q is_p is_q = absurd is_q
+  released_as p q k Alone (Sends i) at_p at_q is_p is_q = absurd is_q
+  released_as p q k (Carries part) Asks at_p at_q is_p is_q = absurd is_q
+  released_as p q k (Carries part) Announces at_p at_q is_p is_q = absurd is_q
+  released_as p q k (Carries part) (Sends i) at_p at_q is_p is_q = absurd is_q
+
   -- one message to all
   abbrev to_all_of : OneToAll plan timing
   to_all_of = record {
@@ -175,6 +212,9 @@ module _ (plan : Plan) (timing : Timing) (apart : ArePlannedApart (units_of plan
     first = 4;
     announced = λ x m. refl;
     carried = λ x m k. omega arith;
+    few = third_seldom;
+    others_few = λ p k answering is. seldom_of (choice packets p) k answering is;
+    one_release = λ p q k answering in_p in_q is_p is_q. released_as p q k (choice packets p) (choice packets q) refl refl is_p is_q;
   }
 
   abbrev messages_to_all : Broadcasts

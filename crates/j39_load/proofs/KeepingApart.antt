@@ -25,7 +25,7 @@ use Rattle.j39_load.specs.Loads.{bits_per_ms, is_any}
 use Rattle.j39_load.specs.Ranks.{AreHeldApart}
 use Rattle.j39_load.specs.SentFrames.{Announcing, Carrying, FrameSources, HasPeriodMs, Held, Single, goes_to}
 use Rattle.j39_load.proofs.DamagedFirst as damaged_first
-use Rattle.j39_load.proofs.KeepingPlanned.{keeps_queues, none_foreseen, none_other, of_one_source, one_source_kept, period_is, source_can_be_kept}
+use Rattle.j39_load.proofs.KeepingPlanned.{IsAskedSeldom, keeps_queues, none_foreseen, none_other, of_one_source, one_source_kept, period_is, room_for, source_can_be_kept}
 use Rattle.j39_load.proofs.KeepingPlanned.{planned_address, planned_apart, planned_controllers, planned_held, planned_receiver, planned_sender, planned_single}
 use Rattle.j39_timing.proofs.Rounds.{rounds_legal}
 use Rattle.j39_load.proofs.Milliseconds.{at_once, in_ms_behind, in_unit_ms}
@@ -64,9 +64,9 @@ module _ (plan : Plan) (timing : Timing) (apart : ArePlannedApart (units_of plan
   abbrev pub held : Held
   held = planned_held plan apart
 
-  -- from one frame to the next is a period, and a frame
+  -- from one frame to the next is a period, also one of a request for it, and a frame
   abbrev step : ℕ
-  step = pace.period * bits_per_ms timing.bitrate + 160
+  step = room_for plan timing flow pace + 160
 
   abbrev alone : Senders
   alone = record {
@@ -106,8 +106,8 @@ module _ (plan : Plan) (timing : Timing) (apart : ArePlannedApart (units_of plan
   pub same_period : (ms : ℕ) → HasPeriodMs plan f ms → pace.period ≡ ms
   same_period ms every = period_is plan f flow pace its paced ms every
 
-  pub can_be_kept : CanBeKept plan timing (Single f) n
-  can_be_kept = source_can_be_kept plan timing apart f flow pace its paced (Single f) step (omega arith) (λ ms every. every) to_one bus
+  pub can_be_kept : IsAskedSeldom plan flow → CanBeKept plan timing (Single f) n
+  can_be_kept few = source_can_be_kept plan timing apart f flow pace its paced few (Single f) step (omega arith) (λ ms every. every) (λ g is. is) to_one bus
       (λ p in_p. planned_single plan timing apart f flow pace group its paced of short bus (p * step) p (omega arith) (omega arith)
       (at_once timing pace.jitter (p * step)) refl)
       (rounds_legal alone are_senders n)
@@ -117,9 +117,9 @@ module _ (plan : Plan) (timing : Timing) (apart : ArePlannedApart (units_of plan
   abbrev jitter : ℕ
   jitter = pace.jitter * bits_per_ms timing.bitrate
 
-  -- from one frame to the next is a period, and room for the two and an error frame
+  -- from one frame to the next is such a time, and room for the two and an error frame
   abbrev long_step : ℕ
-  long_step = pace.period * bits_per_ms timing.bitrate + 400
+  long_step = room_for plan timing flow pace + 400
 
   abbrev ident : ℕ
   ident = identifier_of group.priority group.pgn (goes_to address flow.to) (address flow.sender)
@@ -136,8 +136,8 @@ module _ (plan : Plan) (timing : Timing) (apart : ArePlannedApart (units_of plan
   abbrev late_sent : FrameSources
   late_sent = of_one_source (Single f) long_step
 
-  late_keeps : KeepsToPlan plan timing late_bus all_planned late_sent held
-  late_keeps = one_source_kept plan timing apart f flow pace its paced (Single f) long_step (omega arith) (λ ms every. every) to_one late_bus
+  late_keeps : IsAskedSeldom plan flow → KeepsToPlan plan timing late_bus all_planned late_sent held
+  late_keeps few = one_source_kept plan timing apart f flow pace its paced few (Single f) long_step (omega arith) (λ ms every. every) (λ g is. is) to_one late_bus
       (λ p in_p. planned_single plan timing apart f flow pace group its paced of short late_bus (p * long_step) p (omega arith) (omega arith)
       (in_unit_ms timing pace.jitter (p * long_step) (p * long_step + jitter) (omega arith)) refl)
 
@@ -193,8 +193,8 @@ module _ (plan : Plan) (timing : Timing) (apart : ArePlannedApart (units_of plan
           omega (arith, none);
     }
 
-    pub can_be_kept_together : IsPgn group.pgn → (rate : ErrorRate) → timing.errors ≡ Some rate → CanBeKeptTogether plan timing rate f pace n half_sent
-    can_be_kept_together number rate stated =
+    pub can_be_kept_together : IsAskedSeldom plan flow → IsPgn group.pgn → (rate : ErrorRate) → timing.errors ≡ Some rate → CanBeKeptTogether plan timing rate f pace n half_sent
+    can_be_kept_together few number rate stated =
         let legal = damaged_first.legal n long_step jitter (80 + 10 * group.most) ident some_bits room half_sent (omega (arith, short)) in
         record {
           s = late_bus;
@@ -205,7 +205,7 @@ module _ (plan : Plan) (timing : Timing) (apart : ArePlannedApart (units_of plan
           held = held;
           legal = legal;
           any_order = damaged_first.any_order late_bus attempt legal controllers;
-          keeps = late_keeps;
+          keeps = late_keeps few;
           queues = late_queues number;
           errors = late_errors rate stated;
           errors_in_any_order = late_errors_in_any_order;

@@ -10,6 +10,7 @@ use Rattle.j39_network.specs.declared.plan.group_plan.GroupPlan.{GroupPlan}
 use Rattle.j39_network.specs.declared.plan.pace.Pace.{Pace}
 use Rattle.j39_network.specs.declared.plan.timing.Timing.{Timing}
 use Rattle.j39_network.specs.declared.plan.to.To.TheVariants.{All}
+use Rattle.j39_load.specs.KeepsAnswers.{IsOfFlow}
 use Rattle.j39_load.specs.KeepsPlan.{KeepsQueues, KeepsToPlan}
 use Rattle.j39_load.specs.KeptDeadlines.{AreSentWhole, CanBeSentWhole, TakeTurns, whole_from}
 use Rattle.j39_load.specs.Loads.{bits_per_ms}
@@ -17,7 +18,7 @@ use Rattle.j39_load.specs.SentFrames.{Asking, Announcing, Broadcasts, Carrying, 
 use Rattle.j39_load.specs.SentFrames.{IsWithinUnitMs, Source}
 use Rattle.j39_load.proofs.KeepingOneToAll as one
 use Rattle.j39_load.proofs.KeepingOneToAll.{OneToAll}
-use Rattle.j39_load.proofs.KeepingPlanned.{keeps_queues, slots_kept, planned_address, planned_apart, planned_controllers, planned_held, planned_sender}
+use Rattle.j39_load.proofs.KeepingPlanned.{IsAskedSeldom, keeps_queues, slots_kept, planned_address, planned_apart, planned_controllers, planned_held, planned_sender}
 use Rattle.std.proofs.Math.Nat.{mul-le-mul_right}
 use Rattle.j39_load.proofs.Milliseconds.{in_unit_ms}
 use Rattle.j39_load.proofs.Slots.{slots}
@@ -43,6 +44,11 @@ slot_of (First f) = 0
 slot_of (InSession f part) = 0
 slot_of (Asking r) = 0
 
+-- which is of no flow with messages to one unit, or of one frame
+no_other_at : (u p g : ℕ) → IsOfFlow g (source_at u p) → ⊥
+no_other_at u zero g is = is
+no_other_at u (suc k) g is = is
+
 slot_stated : (u p : ℕ) → slot_of (source_at u p) ≡ p
 slot_stated u zero = refl
 slot_stated u (suc k) = refl
@@ -50,7 +56,7 @@ slot_stated u (suc k) = refl
 module _ (plan : Plan) (timing : Timing) (apart : ArePlannedApart (units_of plan)) (f : ℕ) (flow : FlowPlan) (pace : Pace) (group : GroupPlan)
     (its : slice_get plan.flows.items f ≡ Some flow) (paced : flow.pace ≡ Some pace) (of : slice_get plan.groups.items flow.group ≡ Some group)
     (long : 8 < group.most) (goes_to_all : flow.to ≡ All) (more : ℕ) (two : 2 ≤ more) (shortest : group.length ≤ 7 * more)
-    (longest : 7 * more < group.most + 7) where
+    (longest : 7 * more < group.most + 7) (few_asked : IsAskedSeldom plan flow) where
   abbrev address : ℕ → ℕ
   address = planned_address plan apart
 
@@ -96,6 +102,9 @@ module _ (plan : Plan) (timing : Timing) (apart : ArePlannedApart (units_of plan
     first = 0;
     announced = λ x m. refl;
     carried = λ x m k. omega arith;
+    few = few_asked;
+    others_few = λ p g answering is. absurd (no_other_at u p g is);
+    one_release = λ p q g answering in_p in_q is_p is_q. absurd (no_other_at u p g is_p);
   }
 
   abbrev messages : Broadcasts

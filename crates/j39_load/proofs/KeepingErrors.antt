@@ -24,7 +24,8 @@ use Rattle.j39_load.specs.Asked.{announcements_of_unit, asked_of, frames_asked, 
 use Rattle.j39_load.specs.Damage.{damage_frames, damage_stream, first_frames}
 use Rattle.j39_load.specs.KeepsErrors.{KeepsErrors, origins_with, planned_with}
 use Rattle.j39_load.specs.KeepsPlan.{IsSingleFlow, KeepsToPlan, origins_of, source_place}
-use Rattle.j39_load.specs.Loads.{bits_inside, destination_at, load_of_flow}
+use Rattle.j39_load.specs.Loads.{bits_inside, destination_at}
+use Rattle.j39_load.specs.FlowLoads.{load_of_flow}
 use Rattle.j39_load.specs.PlannedFrames.{AreFramesOfPlan, no_frames, planned_at}
 use Rattle.j39_load.specs.SentFrames.{FrameSources, Announcing, Carrying, HasTime, Held, IsBroadcastFrame, IsFrameOf, Part, Single, First, InSession}
 use Rattle.j39_load.specs.SentFrames.{Asking, Source, goes_to, part_identifier}
@@ -353,9 +354,9 @@ module _ (plan : Plan) (timing : Timing) (stays : UnitPlan → Bool) (states : D
         omega (arith, high, greatest, ident)
 
     -- what isn't of damage is a frame as it was
-    copies : (p : ℕ) → p < w.count → is_planned p ≡ true → (planned_at streams (of.source p)).stream.wanted ≡ None ⊎ IsCopy plan s planned sent of p
+    copies : (p : ℕ) → p < w.count → is_planned p ≡ true → (planned_at streams (of.source p)).stream.wanted ≡ None ⊎ IsCopy plan s planned sent w of p
     copies p in_p is = elim (kinds p in_p) [
-      | inl at ↦ inr (record { below = at.frame.below; is = sym at.plans ∙ is; place = at.source; since = at.since })
+      | inl at ↦ inr (record { below = at.frame.below; is = sym at.plans ∙ is; place = at.source; since = at.since; queued = at.frame.queued })
       | inr at ↦ inl (ap (λ (f : FlowFrames). f.stream.wanted) (ap (planned_at streams) at.source ∙ damage_read at.error))
     ]
 
@@ -366,7 +367,7 @@ module _ (plan : Plan) (timing : Timing) (stays : UnitPlan → Bool) (states : D
         | inr at ↦ let bits = at.bits in let few = narrow at.error in omega (arith, bits, few)
       ];
       of_streams = streams_with;
-      as_wanted = as_wanted plan timing stays s planned sent held keeps.frames keeps.broadcasts w is_planned of copies
+      as_wanted = as_wanted plan timing stays s planned sent held keeps.frames keeps.broadcasts keeps.answers w is_planned of copies
           (stated_stream plan timing stays states clean s bus.queued_first planned sent held keeps);
       from_least = λ p in_p is. elim (kinds p in_p) [
         | inl at ↦ least_with p at (sym at.plans ∙ is)

@@ -10,9 +10,8 @@ use Rattle.j39_network.specs.declared.plan.group_plan.GroupPlan.{GroupPlan}
 use Rattle.j39_network.specs.declared.plan.pace.Pace.{Pace}
 use Rattle.j39_network.specs.declared.plan.timing.Timing.{Timing}
 use Rattle.j39_load.specs.KeepsPlan.{CanBeKept}
-use Rattle.j39_load.specs.Loads.{bits_per_ms}
 use Rattle.j39_load.specs.SentFrames.{First, Held, IsFirstFrame, goes_to}
-use Rattle.j39_load.proofs.KeepingPlanned.{planned_address, planned_held, planned_receiver, planned_sender, source_can_be_kept}
+use Rattle.j39_load.proofs.KeepingPlanned.{IsAskedSeldom, planned_address, planned_held, planned_receiver, planned_sender, room_for, source_can_be_kept}
 use Rattle.j39_load.proofs.Milliseconds.{at_once}
 use Rattle.j39_load.proofs.Slots.{slots, slots_legal}
 use Rattle.j39_timing.specs.TimedFrames.{Schedule}
@@ -20,16 +19,16 @@ use Rattle.j39_world.specs.HeldAddresses.{ArePlannedApart}
 
 module _ (plan : Plan) (timing : Timing) (apart : ArePlannedApart (units_of plan)) (f : ℕ) (flow : FlowPlan) (pace : Pace) (group : GroupPlan)
     (its : slice_get plan.flows.items f ≡ Some flow) (paced : flow.pace ≡ Some pace) (of : slice_get plan.groups.items flow.group ≡ Some group)
-    (short : group.length ≤ 8) (long : 8 < group.most) (n : ℕ) where
+    (short : group.length ≤ 8) (long : 8 < group.most) (few : IsAskedSeldom plan flow) (n : ℕ) where
   abbrev address : ℕ → ℕ
   address = planned_address plan apart
 
   abbrev held : Held
   held = planned_held plan apart
 
-  -- from one frame to the next is a period
+  -- from one frame to the next is a period, also one of a request for it
   abbrev width : ℕ
-  width = pace.period * bits_per_ms timing.bitrate + 80
+  width = room_for plan timing flow pace + 80
 
   abbrev bus : Schedule
   bus = slots width n (λ p. identifier_of group.priority group.pgn (goes_to address flow.to) (address flow.sender))
@@ -53,6 +52,6 @@ module _ (plan : Plan) (timing : Timing) (apart : ArePlannedApart (units_of plan
   }
 
   pub firsts_can_be_kept : CanBeKept plan timing (First f) n
-  firsts_can_be_kept = source_can_be_kept plan timing apart f flow pace its paced (First f) width (omega arith) (λ ms every. every)
+  firsts_can_be_kept = source_can_be_kept plan timing apart f flow pace its paced few (First f) width (omega arith) (λ ms every. every) (λ g is. is)
       ((λ u m same. cc), (λ u m k same. cc)) bus (λ p in_p. frame p)
       (slots_legal width n (λ p. identifier_of group.priority group.pgn (goes_to address flow.to) (address flow.sender)) (omega arith))

@@ -1,8 +1,8 @@
 -- What is reported of a frame by its source: it is one of the frames that stand at its place among all that a plan asks for.
-use Rattle.std.proofs.Common.{◌≡◌, ℕ, ◌+◌, ◌*◌, ◌^◌, ◌<◌, ◌≤◌, Bool, true, false, eqb, List, length, Some}
-use Rattle.std.proofs.Common.{refl, sym, ap, subst, inl, inr, arith}
+use Rattle.std.proofs.Common.{◌≡◌, ℕ, zero, suc, ◌+◌, ◌-◌, ◌*◌, ◌^◌, ◌<◌, ◌≤◌, Bool, true, false, eqb, List, length, None, Some}
+use Rattle.std.proofs.Common.{refl, sym, ap, ◌∙◌, subst, inl, inr, arith}
 use Rattle.std.proofs.lemmas.Bool.{eq-eqb, le-leb, lt-leb, or_cases, or_right}
-use Rattle.std.proofs.lemmas.Option.{slice_get_within}
+use Rattle.std.proofs.lemmas.Option.{none-some, same_Some, slice_get_within}
 use Rattle.std.specs.Int.{div_ceil}
 use Rattle.std.specs.List.{slice_get}
 use Rattle.std.specs.Option.{option_map_or}
@@ -20,11 +20,14 @@ use Rattle.j39_network.specs.declared.plan.unit_plan.UnitPlan.{UnitPlan}
 use Rattle.j39_search.proofs.Members.{all_at}
 use Rattle.j39_load.specs.declared.frames.flow_frames.FlowFrames.{FlowFrames}
 use Rattle.j39_load.specs.AnyQueues.{are_of_unit}
+use Rattle.j39_load.specs.AnswerStreams.{answered_within, answers_want, askers_of, frames_for}
+use Rattle.j39_load.specs.KeepsAnswers.{IsOfFlow, answered_in}
 use Rattle.j39_load.specs.KeepsPlan.{packets_at, source_turn, turn_of_part}
-use Rattle.j39_load.specs.Loads.{any_unit, destination_at, greatest_address, group_ident, least_address, of_unit}
+use Rattle.j39_load.specs.Loads.{any_unit, bits_at_least, bits_at_most, destination_at, greatest_address, group_ident, least_address, of_unit}
+use Rattle.j39_load.specs.Loads.{packet_frames, single_frames}
 use Rattle.j39_load.specs.Ranks.{AreHeldApart, AreHeldByPlan, AreUnitsPlanned}
 use Rattle.j39_load.specs.SentFrames.{Held, IsFrameOf, IsRequestFrame, IsSessionFrame, IsSingleFrame, Part, SendsPart}
-use Rattle.j39_load.specs.SentFrames.{HasPeriodMs, IsFirstFrame, Source, part_identifier}
+use Rattle.j39_load.specs.SentFrames.{HasPeriodMs, IsFirstFrame, IsSentEvery, IsWithinUnitMs, Source, part_identifier}
 use Rattle.j39_load.specs.SentFrames.{Single, First, InSession, Asking, RequestToSend, Packet, ClearToSend, EndAcknowledged}
 use Rattle.j39_load.proofs.PlacedFrames.{announcing_read, carrying_read, first_read, in_request, in_session, own, read, request_frames_read, session_read}
 use Rattle.j39_load.proofs.PlacedFrames.{unit_asks, unit_planned}
@@ -38,7 +41,11 @@ use Rattle.j39_load.proofs.SessionParts.{turn_below}
 use Rattle.j39_timing.specs.TimedFrames.{Schedule}
 use Rattle.j39_timing.specs.Traffic.{IsQueuedAt}
 use Rattle.j39_tp.specs.Chunks.{packets_of}
-use Rattle.j39_load.proofs.KnownFrames.{IsBetween, IsKnown, any_stated, asking_ident, first_ident, of_one_unit, one_to, single_ident}
+use Rattle.j39_load.proofs.KnownFrames.{IsAskedBy, IsBetween, IsKnown, IsPacedBy, any_stated, asking_ident, first_ident, of_one_unit, one_to}
+use Rattle.j39_load.proofs.KnownFrames.{single_ident}
+use Rattle.j39_load.proofs.KeepingAnswers.{asked_where_some, some_askers, unasked_where_none}
+use Rattle.j39_timing.specs.declared.wants.Want.{Want}
+use Rattle.j39_timing.proofs.Demands.{no_demand, spaced_unwanted}
 
 module _ (plan : Plan) (timing : Timing) (stays : UnitPlan → Bool) where
   abbrev units : List UnitPlan
@@ -65,9 +72,57 @@ module _ (plan : Plan) (timing : Timing) (stays : UnitPlan → Bool) where
       receiver = all_at (λ (g : FlowPlan). (v : ℕ) → g.to ≡ One v → v < length plan.units.items) plan.flows.items plan.flow_receivers f flow its;
     }
 
-    has_period : (f : ℕ) (flow : FlowPlan) (pace : Pace) → slice_get plan.flows.items f ≡ Some flow → flow.pace ≡ Some pace
-        → HasPeriodMs plan f pace.period
-    has_period f flow pace its paced = record { flow = flow; its = its; pace = pace; paced = paced; is = refl }
+    -- how far messages of a flow are apart, of such frames, or how many are asked for
+    module _ (f : ℕ) (flow : FlowPlan) (pace : Pace) (its : slice_get plan.flows.items f ≡ Some flow) (paced : flow.pace ≡ Some pace) (source : Source)
+        (frames : FlowFrames) (none : frames.stream.wanted ≡ None) (period : frames.stream.period ≡ bits_at_least timing pace.period) (of_flow : IsOfFlow f source)
+        (every : HasPeriodMs plan f pace.period → IsSentEvery plan source pace.period) (turn : source_turn plan source < frames.stream.frames)
+        (late : (moment at : ℕ) → IsWithinUnitMs timing (answered_in pace source) moment at
+        → at ≤ moment + (frames.stream.jitter + (bits_at_most timing (answered_within pace) - bits_at_most timing pace.jitter))) where
+      by_askers : (k : ℕ) → askers_of plan.requests.items flow ≡ k → IsPacedBy plan timing stays source (frames_for timing pace k frames).stream
+      by_askers zero is = record {
+        ms = pace.period;
+        every = λ spaced. every (record {
+          flow = flow;
+          its = its;
+          pace = pace;
+          paced = paced;
+          is = refl;
+          unasked = unasked_where_none plan.requests.items flow is;
+        });
+        period = period;
+        unwanted = λ demands. no_demand demands (frames_for timing pace 0 frames).stream none;
+        asked = λ want some. absurd (none-some want (sym (spaced_unwanted (frames_for timing pace 0 frames).stream none) ∙ some));
+      }
+      by_askers (suc more) is = record {
+        ms = pace.period;
+        every = λ spaced. absurd (none-some (answers_want timing pace frames.stream.frames more) (sym spaced));
+        period = period;
+        unwanted = λ demands. refl;
+        asked = λ want some.
+            subst (λ (x : Want). IsAskedBy plan timing stays source (frames_for timing pace (suc more) frames).stream x)
+            (same_Some (answers_want timing pace frames.stream.frames more) want some) (record {
+              place = f;
+              answering = record {
+                flow = flow;
+                its = its;
+                pace = pace;
+                paced = paced;
+                answers = asked_where_some plan.requests.items flow pace more paced is;
+              };
+              of_flow = of_flow;
+              turn = turn;
+              period = refl;
+              askers = (let size = some_askers plan.requests.items flow (asked_where_some plan.requests.items flow pace more paced is) in omega (arith, size, is));
+              late = late;
+            });
+      }
+
+      pub paced_for : IsPacedBy plan timing stays source (frames_for timing pace (askers_of plan.requests.items flow) frames).stream
+      paced_for = by_askers (askers_of plan.requests.items flow) refl
+
+    late_of_one : (pace : Pace) (moment at : ℕ) → IsWithinUnitMs timing (answered_within pace) moment at
+        → at ≤ moment + (bits_at_most timing pace.jitter + (bits_at_most timing (answered_within pace) - bits_at_most timing pace.jitter))
+    late_of_one pace moment at within = let bits = within_bits timing (answered_within pace) moment at within in omega (arith, bits)
 
     -- the identifier of a flow lies between those that are reported
     lies_between : (f : ℕ) (flow : FlowPlan) (its : slice_get plan.flows.items f ≡ Some flow) (group : GroupPlan) (ident t : ℕ)
@@ -90,7 +145,8 @@ module _ (plan : Plan) (timing : Timing) (stays : UnitPlan → Bool) where
         turns = omega arith;
         release_first = one.release_first;
         jitter_at_most = within_bits timing one.pace.jitter release (s.queued p) one.jitter_at_most;
-        paced = record { ms = one.pace.period; every = has_period f one.flow one.pace one.its one.paced; period = refl; unwanted = refl };
+        paced = paced_for f one.flow one.pace one.its one.paced (Single f) (single_frames timing units stays one.flow one.pace one.group) refl refl refl
+            (λ every. every) (omega arith) (late_of_one one.pace);
         between = between;
         greatest = between.1;
         of_units = of_one_unit plan timing stays (Single f) (own plan timing stays f one.flow one.pace one.group one.its one.paced one.of) one.flow.sender
@@ -110,7 +166,8 @@ module _ (plan : Plan) (timing : Timing) (stays : UnitPlan → Bool) where
         turns = omega arith;
         release_first = one.release_first;
         jitter_at_most = within_bits timing one.pace.jitter release (s.queued p) one.jitter_at_most;
-        paced = record { ms = one.pace.period; every = has_period f one.flow one.pace one.its one.paced; period = refl; unwanted = refl };
+        paced = paced_for f one.flow one.pace one.its one.paced (First f) (single_frames timing units stays one.flow one.pace one.group) refl refl refl
+            (λ every. every) (omega arith) (late_of_one one.pace);
         between = first_between;
         greatest = tt;
         of_units = of_one_unit plan timing stays (First f) (own plan timing stays f one.flow one.pace one.group one.its one.paced one.of) one.flow.sender
@@ -134,7 +191,13 @@ module _ (plan : Plan) (timing : Timing) (stays : UnitPlan → Bool) where
             turns = omega arith;
             release_first = omega (arith, at_once);
             jitter_at_most = omega (arith, at_once);
-            paced = record { ms = one.ms; every = (one.asked, one.its, one.paced); period = refl; unwanted = refl };
+            paced = record {
+              ms = one.ms;
+              every = λ spaced. (one.asked, one.its, one.paced);
+              period = refl;
+              unwanted = λ demands. refl;
+              asked = λ want some. absurd (none-some want some);
+            };
             between = (omega (arith, least, is_ident), omega (arith, greatest, is_ident));
             greatest = tt;
             of_units = of_one_unit plan timing stays (Asking r) (in_request plan timing stays r one.asked one.ms one.its one.paced) one.asked.sender
@@ -271,12 +334,10 @@ module _ (plan : Plan) (timing : Timing) (stays : UnitPlan → Bool) where
             turns = turns_below;
             release_first = one.release_first;
             jitter_at_most = within_both timing one.pace.period one.pace.jitter release (s.queued p) one.jitter_at_most;
-            paced = record {
-              ms = one.pace.period;
-              every = record { flow = one.flow; its = one.its; pace = one.pace; paced = one.paced; is = refl };
-              period = refl;
-              unwanted = refl;
-            };
+            paced = paced_for f one.flow one.pace one.its one.paced (InSession f part)
+                (packet_frames timing units stays one.flow v one.pace (packets_of one.group.most)) refl refl refl (λ every. every) turns_below
+                (λ moment at within.
+                let bits = within_both timing one.pace.period (answered_within one.pace) moment at within in omega (arith, bits));
             between = part_between part (one.identifier (s.queued p) now);
             greatest = tt;
             of_units = record {

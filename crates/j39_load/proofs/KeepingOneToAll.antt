@@ -1,5 +1,5 @@
 -- What a bus keeps on which one long message is sent to all, its frames in slots one behind the other, whatever goes in the other slots.
-use Rattle.std.proofs.Common.{◌≡◌, ℕ, ◌+◌, ◌*◌, ◌<◌, ◌≤◌, Bool, true, false, cond, eqb, Some, refl, sym, ap, ◌∙◌, inl, inr, arith}
+use Rattle.std.proofs.Common.{◌≡◌, ℕ, ◌+◌, ◌*◌, ◌<◌, ◌≤◌, Bool, true, false, cond, eqb, Some, refl, sym, ap, ◌∙◌, subst, inl, inr, arith}
 use Rattle.std.proofs.Math.Nat.{mul-le-mul_right}
 use Rattle.std.proofs.lemmas.Bool.{cases_lt, eq-eqb, eqb-true}
 use Rattle.std.specs.List.{slice_get}
@@ -14,11 +14,13 @@ use Rattle.j39_network.specs.declared.plan.to.To.TheVariants.{All}
 use Rattle.j39_timing.specs.Rounds.{all_planned}
 use Rattle.j39_timing.specs.TimedFrames.{Schedule}
 use Rattle.j39_world.specs.HeldAddresses.{ArePlannedApart}
+use Rattle.j39_load.specs.KeepsAnswers.{IsAnswering, IsOfFlow}
 use Rattle.j39_load.specs.KeepsBroadcasts.{KeepsBroadcasts, KeepsTurns}
 use Rattle.j39_load.specs.KeepsPlan.{KeepsToPlan}
 use Rattle.j39_load.specs.Loads.{bits_per_ms}
-use Rattle.j39_load.specs.SentFrames.{Announcing, Broadcasts, Carrying, FrameSources, IsBroadcastFrame, IsFrameOf, Source}
-use Rattle.j39_load.proofs.KeepingPlanned.{keeps_all, planned_address, planned_held, planned_sender}
+use Rattle.j39_load.specs.SentFrames.{Announcing, Broadcasts, Carrying, FrameSources, IsBroadcastFrame, IsFrameOf, IsMsBehind, Source}
+use Rattle.j39_load.proofs.AnswersGiven.{answers_given, first_period}
+use Rattle.j39_load.proofs.KeepingPlanned.{IsAskedSeldom, keeps_all, planned_address, planned_held, planned_sender, seldom_at}
 use Rattle.j39_load.proofs.Milliseconds.{at_once, in_ms_behind}
 use Rattle.j39_load.proofs.Slots.{ends_before, slots}
 
@@ -49,6 +51,10 @@ pub record OneToAll (plan : Plan) (timing : Timing) : Type 0 where
   pub first : ℕ
   pub announced : (u m : ℕ) → slot_of (Announcing u m) ≡ first
   pub carried : (u m k : ℕ) → first ≤ slot_of (Carrying u m k)
+  -- no more is asked of the flows than their periods let, and frames of one flow have one release
+  pub few : IsAskedSeldom plan flow
+  pub others_few : (p g : ℕ) (answering : IsAnswering plan g) → IsOfFlow g (source p) → IsAskedSeldom plan answering.flow
+  pub one_release : (p q g : ℕ) → IsAnswering plan g → p < count → q < count → IsOfFlow g (source p) → IsOfFlow g (source q) → release p ≡ release q
 
 module _ (plan : Plan) (timing : Timing) (apart : ArePlannedApart (units_of plan)) (one : OneToAll plan timing) where
   abbrev u : ℕ
@@ -151,4 +157,13 @@ module _ (plan : Plan) (timing : Timing) (apart : ArePlannedApart (units_of plan
   pub keeps : ((p : ℕ) → p < one.count → IsFrameOf plan timing bus (planned_held plan apart) messages (one.source p) (one.release p) p)
       → KeepsToPlan plan timing bus all_planned sent (planned_held plan apart)
   keeps frames =
-      keeps_all plan timing apart bus sent frames (λ p q ms differ same every. absurd (differ (same_slot p q same))) broadcasts
+      keeps_all plan timing apart bus sent frames (λ p q ms differ same every. absurd (differ (same_slot p q same)))
+      (answers_given plan timing bus sent (planned_held plan apart) frames broadcasts (λ p. 0) (λ p g answering in_p is. one.others_few p g answering is)
+      (λ p q in_p in_q same number. same_slot p q same)
+      (λ p q g answering in_p in_q is_p is_q order.
+      let release = one.one_release p q g answering in_p in_q is_p is_q in
+      let nothing : 0 ≡ 0 * first_period plan.requests.items answering.flow = omega arith in
+      subst (λ (x : ℕ). IsMsBehind timing x (one.release p) (one.release q)) nothing
+      (in_ms_behind timing 0 (one.release p) (one.release q) (omega (arith, release))))
+      (λ x m g answering below is. seldom_at plan one.f g one.flow one.its is one.few answering) (λ x m below. (only_message x m below).0))
+      broadcasts

@@ -36,6 +36,7 @@ use Rattle.j39_timing.specs.FrameStreams.{AreOfStreams, KeepsStream}
 use Rattle.j39_timing.specs.TimedFrames.{Schedule, IsLegal}
 use Rattle.j39_timing.specs.declared.stream.Stream.{Stream}
 use Rattle.j39_timing.specs.Traffic.{AreAsWanted, IsQueuedAt, may_share}
+use Rattle.j39_timing.specs.Waits.{IsSpaced}
 
 module _ (plan : Plan) (timing : Timing) (stays : UnitPlan → Bool) (states : DecidesWhoStays plan stays) (clean : Clean plan) (s : Schedule)
     (queued_first : (p : ℕ) → p < s.count → s.queued p ≤ s.start p) (planned : ℕ → Bool) (sent : FrameSources) (held : Held)
@@ -71,11 +72,11 @@ module _ (plan : Plan) (timing : Timing) (stays : UnitPlan → Bool) (states : D
 
   -- of one source, but of long messages to all, the releases are a period apart
   by_pace : (p q : ℕ) → p < s.count → q < s.count → p ≢ q → planned p ≡ true → planned q ≡ true → sent.source p ≡ sent.source q → (stream : Stream)
-      → IsPacedBy plan timing stays (sent.source p) stream
+      → IsPacedBy plan timing stays (sent.source p) stream → IsSpaced stream
       → (sent.release p + stream.period ≤ sent.release q) ⊎ (sent.release q + stream.period ≤ sent.release p)
-  by_pace p q in_p in_q other is_p is_q one stream stated =
+  by_pace p q in_p in_q other is_p is_q one stream stated spaced =
       let period = stated.period in
-      elim (keeps.apart p q stated.ms in_p in_q other is_p is_q one stated.every) [
+      elim (keeps.apart p q stated.ms in_p in_q other is_p is_q one (stated.every spaced)) [
         | inl before ↦ inl (let bits = behind_bits timing stated.ms (sent.release p) (sent.release q) before in omega (arith, bits, period))
         | inr after ↦ inr (let bits = behind_bits timing stated.ms (sent.release q) (sent.release p) after in omega (arith, bits, period))
       ]
@@ -140,26 +141,27 @@ module _ (plan : Plan) (timing : Timing) (stays : UnitPlan → Bool) (states : D
 
     -- of what comes by its own pace
     alike : (x : Source) → HasPace plan timing stays x → sent.source p ≡ x → source_place plan x ≡ source_place plan (sent.source q) → source_turn plan x ≡ source_turn plan (sent.source q)
-        → (stream : Stream) → IsPacedBy plan timing stays x stream → (sent.release p + stream.period ≤ sent.release q)
+        → (stream : Stream) → IsPacedBy plan timing stays x stream → IsSpaced stream → (sent.release p + stream.period ≤ sent.release q)
         ⊎ (sent.release q + stream.period ≤ sent.release p)
-    alike x pace first place turn stream paced =
+    alike x pace first place turn stream paced spaced =
         let one : x ≡ sent.source q =
         one_source plan timing stays s held sent.broadcasts keeps.broadcasts.messages x (sent.source q) (sent.release p) (sent.release q) p q pace
         (subst (λ (y : Source). IsFrameOf plan timing s held sent.broadcasts y (sent.release p) p) first frame_p) frame_q place turn in
-        by_pace p q in_p in_q other is_p is_q (first ∙ one) stream (subst (λ (y : Source). IsPacedBy plan timing stays y stream) (sym first) paced)
+        by_pace p q in_p in_q other is_p is_q (first ∙ one) stream (subst (λ (y : Source). IsPacedBy plan timing stays y stream) (sym first) paced) spaced
 
     by_source : (x : Source) → sent.source p ≡ x → source_place plan x ≡ source_place plan (sent.source q) → source_turn plan x ≡ source_turn plan (sent.source q) → (stream : Stream)
-        → IsPaced plan timing stays x stream → (sent.release p + stream.period ≤ sent.release q) ⊎ (sent.release q + stream.period ≤ sent.release p)
-    by_source (Single f) first place turn stream paced = alike (Single f) tt first place turn stream paced
-    by_source (First f) first place turn stream paced = alike (First f) tt first place turn stream paced
-    by_source (InSession f part) first place turn stream paced = alike (InSession f part) tt first place turn stream paced
-    by_source (Asking r) first place turn stream paced = alike (Asking r) tt first place turn stream paced
-    by_source (Announcing u m) first place turn stream paced =
+        → IsPaced plan timing stays x stream → IsSpaced stream
+        → (sent.release p + stream.period ≤ sent.release q) ⊎ (sent.release q + stream.period ≤ sent.release p)
+    by_source (Single f) first place turn stream paced spaced = alike (Single f) tt first place turn stream paced spaced
+    by_source (First f) first place turn stream paced spaced = alike (First f) tt first place turn stream paced spaced
+    by_source (InSession f part) first place turn stream paced spaced = alike (InSession f part) tt first place turn stream paced spaced
+    by_source (Asking r) first place turn stream paced spaced = alike (Asking r) tt first place turn stream paced spaced
+    by_source (Announcing u m) first place turn stream paced spaced =
         let one = subst (λ (x : Source). IsFrameOf plan timing s held sent.broadcasts x (sent.release p) p) first frame_p in
         let (n, second) = of_announcements plan timing stays s held sent.broadcasts keeps.broadcasts.messages (sent.source q) u m (sent.release q) q frame_q one.known
         (sym place) in
         announced_apart u m n first second stream paced
-    by_source (Carrying u m j) first place turn stream paced =
+    by_source (Carrying u m j) first place turn stream paced spaced =
         let one = subst (λ (x : Source). IsFrameOf plan timing s held sent.broadcasts x (sent.release p) p) first frame_p in
         let (n, k, second) = of_packets plan timing stays s held sent.broadcasts keeps.broadcasts.messages (sent.source q) u m j (sent.release q) q frame_q one.0.known
         (sym place) in
@@ -172,16 +174,16 @@ module _ (plan : Plan) (timing : Timing) (stays : UnitPlan → Bool) (states : D
   pub of_streams : AreOfStreams s (λ p. planned p ≡ true) (traffic plan timing stays).count (traffic plan timing stays).stream (origins_of plan sent)
   of_streams = record {
     keeps = λ p in_p is. keeps_stream p in_p is;
-    spaced = λ p q in_p in_q other is_p is_q place turn paced.
+    spaced = λ p q in_p in_q other is_p is_q place turn spaced.
         by_source p q in_p in_q other is_p is_q (sent.source p) refl place turn ((traffic plan timing stays).stream (source_place plan (sent.source p)))
-        (stated_stream p in_p is_p);
+        (stated_stream p in_p is_p) spaced;
   }
 
   -- ---- what is wanted
 
   pub as_wanted : AreAsWanted s planned (origins_of plan sent) (traffic plan timing stays).demands (traffic plan timing stays).stream
-  as_wanted = as_wanted_of plan timing stays s planned sent held keeps.frames keeps.broadcasts s planned (origins_of plan sent)
-      (λ p in_p is. inr (record { below = in_p; is = is; place = refl; since = refl })) stated_stream
+  as_wanted = as_wanted_of plan timing stays s planned sent held keeps.frames keeps.broadcasts keeps.answers s planned (origins_of plan sent)
+      (λ p in_p is. inr (record { below = in_p; is = is; place = refl; since = refl; queued = refl })) stated_stream
 
   -- ---- identifiers
 

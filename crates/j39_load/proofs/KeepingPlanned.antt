@@ -1,5 +1,5 @@
 -- What a bus keeps on which all frames are planned, and on which each unit holds its planned address.
-use Rattle.std.proofs.Common.{◌≡◌, ◌≢◌, ℕ, ◌+◌, ◌*◌, ◌^◌, ◌<◌, ◌≤◌, ◌⊎◌, Bool, true, not, ◌&&◌, cond, ltb, nat_le, nat_lt, length, Option, Some}
+use Rattle.std.proofs.Common.{◌≡◌, ◌≢◌, ℕ, ◌+◌, ◌-◌, ◌*◌, ◌^◌, ◌<◌, ◌≤◌, ◌⊎◌, Bool, true, false, not, ◌&&◌, cond, ltb, nat_le, nat_lt, length, Option, Some}
 use Rattle.std.proofs.Common.{refl, sym, ap, ◌∙◌, subst, inl, inr, arith}
 use Rattle.std.proofs.Math.Nat.{mul-le-mul_left}
 use Rattle.std.proofs.lemmas.Bool.{cases_lt, lt-ltb, ltb-true, true≢false}
@@ -27,12 +27,15 @@ use Rattle.j39_timing.specs.TimedFrames.{IsLegal, Schedule}
 use Rattle.j39_timing.specs.Traffic.{others_queued}
 use Rattle.j39_timing.proofs.Sums.{total-none}
 use Rattle.j39_world.specs.HeldAddresses.{ArePlannedApart}
+use Rattle.j39_load.specs.AskedFlows.{is_answering, is_asked_too_often}
+use Rattle.j39_load.specs.KeepsAnswers.{IsAnswering, IsOfFlow, KeepsAnswers}
 use Rattle.j39_load.specs.KeepsBroadcasts.{KeepsBroadcasts}
 use Rattle.j39_load.specs.KeepsPlan.{CanBeKept, KeepsQueues, KeepsToPlan, KeptBus}
 use Rattle.j39_load.specs.Loads.{bits_per_ms, is_any}
 use Rattle.j39_load.specs.Ranks.{AreHeldApart}
 use Rattle.j39_load.specs.SentFrames.{Announcing, Broadcasts, Carrying, FrameSources, HasPeriodMs, Held, IsFrameOf, IsMsBehind, IsSentByUnit, IsSentEvery}
 use Rattle.j39_load.specs.SentFrames.{IsSingleFrame, IsWithinUnitMs, Source, goes_to}
+use Rattle.j39_load.proofs.AnswersGiven.{answers_given, first_period}
 use Rattle.j39_load.proofs.Milliseconds.{in_ms_behind}
 use Rattle.j39_load.proofs.Slots.{slots, slots_any_order, slots_legal}
 
@@ -162,10 +165,12 @@ pub keeps_all : (plan : Plan) (timing : Timing) (apart : ArePlannedApart (units_
     → ((p : ℕ) → p < s.count → IsFrameOf plan timing s (planned_held plan apart) sent.broadcasts (sent.source p) (sent.release p) p)
     → ((p q ms : ℕ) → p ≢ q → sent.source p ≡ sent.source q → IsSentEvery plan (sent.source p) ms
     → IsMsBehind timing ms (sent.release p) (sent.release q) ⊎ IsMsBehind timing ms (sent.release q) (sent.release p))
-    → KeepsBroadcasts plan timing s all_planned sent → KeepsToPlan plan timing s all_planned sent (planned_held plan apart)
-keeps_all plan timing apart s sent frames behind broadcasts = record {
+    → KeepsAnswers plan timing s all_planned sent → KeepsBroadcasts plan timing s all_planned sent
+    → KeepsToPlan plan timing s all_planned sent (planned_held plan apart)
+keeps_all plan timing apart s sent frames behind answers broadcasts = record {
   frames = λ p in_p is. frames p in_p;
   apart = λ p q ms in_p in_q differ is_p is_q same every. behind p q ms differ same every;
+  answers = answers;
   broadcasts = broadcasts;
   held_by_plan = λ t u below. inl refl;
   held_apart = planned_apart plan apart;
@@ -175,6 +180,36 @@ keeps_all plan timing apart s sent frames behind broadcasts = record {
   few_others = λ p from to in_p is source seen waits wait.
       let none = none_other s all_planned (λ q. refl) (s.ident p) from to in omega (arith, none);
 }
+
+-- frames of one flow answer nothing, where it doesn't come only as an answer
+pub answer_nothing : (plan : Plan) (timing : Timing) (s : Schedule) (sent : FrameSources) (f : ℕ) (flow : FlowPlan) → slice_get plan.flows.items f ≡ Some flow
+    → is_answering plan.requests.items flow ≡ false → ((p g : ℕ) → IsOfFlow g (sent.source p) → f ≡ g) → ((u : ℕ) → sent.broadcasts.count u ≡ 0)
+    → KeepsAnswers plan timing s all_planned sent
+answer_nothing plan timing s sent f flow its unasked of_flow none = record {
+  of_frame = λ p. record { request = 0; number = 0; moment = 0 };
+  of_message = λ u m. record { request = 0; number = 0; moment = 0 };
+  frames = λ g answering. record {
+    few = λ p is. absurd (never g answering (of_flow p g is.2));
+    asked = λ p is. absurd (never g answering (of_flow p g is.2));
+    moment_first = λ p is. absurd (never g answering (of_flow p g is.2));
+    in_time = λ p is. absurd (never g answering (of_flow p g is.2));
+    once = λ p q is other alike same. absurd (never g answering (of_flow p g is.2));
+    apart = λ p q ms is other same order every. absurd (never g answering (of_flow p g is.2));
+  };
+  messages = λ u g answering. record {
+    few = λ m is. absurd (let below = is.0 in let zero_is = none u in omega (arith, below, zero_is));
+    asked = λ m is. absurd (let below = is.0 in let zero_is = none u in omega (arith, below, zero_is));
+    moment_first = λ m is. absurd (let below = is.0 in let zero_is = none u in omega (arith, below, zero_is));
+    in_time = λ m is. absurd (let below = is.0 in let zero_is = none u in omega (arith, below, zero_is));
+    once = λ m n is other alike same. absurd (let below = is.0 in let zero_is = none u in omega (arith, below, zero_is));
+    apart = λ m n ms is other same order every. absurd (let below = is.0 in let zero_is = none u in omega (arith, below, zero_is));
+  };
+}
+  where
+    never : (g : ℕ) → IsAnswering plan g → f ≡ g → ⊥
+    never g answering same =
+        let one : flow ≡ answering.flow = same_Some _ _ (sym its ∙ (ap (slice_get plan.flows.items) same ∙ answering.its)) in
+        true≢false (sym answering.answers ∙ (ap (is_answering plan.requests.items) (sym one) ∙ unasked))
 
 -- ---- frames of one source, so many bits apart
 
@@ -188,16 +223,61 @@ steps_behind timing ms width room p q less =
     let more : width * (p + 1) ≤ width * q = mul-le-mul_left width (omega (arith, less)) in
     in_ms_behind timing ms (p * width) (q * width) (omega (arith, more, room))
 
+-- so many of these milliseconds pass on the way from a place to another one
+pub places_behind : (timing : Timing) (ms width p q : ℕ) → ms * bits_per_ms timing.bitrate ≤ width → p ≤ q
+    → IsMsBehind timing ((q - p) * ms) (p * width) (q * width)
+places_behind timing ms width p q room order =
+    let times : (q - p) * (ms * bits_per_ms timing.bitrate) ≤ (q - p) * width = mul-le-mul_left (q - p) room in
+    let turned : (q - p) * ms * bits_per_ms timing.bitrate ≡ (q - p) * (ms * bits_per_ms timing.bitrate) = grind arith in
+    let parts : (p + (q - p)) * width ≡ p * width + (q - p) * width = grind arith in
+    let whole : (p + (q - p)) * width ≡ q * width = ap (λ (n : ℕ). n * width) (omega (arith, order)) in
+    in_ms_behind timing ((q - p) * ms) (p * width) (q * width) (omega (arith, times, turned, parts, whole))
+
+-- both the period of a flow, and that of the first request that asks for it, in bits
+abbrev pub room_for : Plan → Timing → FlowPlan → Pace → ℕ
+room_for plan timing flow pace = (pace.period + first_period plan.requests.items flow) * bits_per_ms timing.bitrate
+
+-- no more is asked of the flow than its period lets
+abbrev pub IsAskedSeldom : Plan → FlowPlan → Type 0
+IsAskedSeldom plan flow = is_asked_too_often plan.requests.items flow ≡ false
+
+pub seldom_at : (plan : Plan) (f g : ℕ) (flow : FlowPlan) → slice_get plan.flows.items f ≡ Some flow → f ≡ g → IsAskedSeldom plan flow
+    → (answering : IsAnswering plan g) → IsAskedSeldom plan answering.flow
+seldom_at plan f g flow its same few answering =
+    subst (IsAskedSeldom plan) (same_Some _ _ (sym its ∙ (ap (slice_get plan.flows.items) same ∙ answering.its))) few
+
 module _ (plan : Plan) (timing : Timing) (apart : ArePlannedApart (units_of plan)) (f : ℕ) (flow : FlowPlan) (pace : Pace)
-    (its : slice_get plan.flows.items f ≡ Some flow) (paced : flow.pace ≡ Some pace) (source : Source) (width : ℕ)
-    (room : pace.period * bits_per_ms timing.bitrate ≤ width) (every : (ms : ℕ) → IsSentEvery plan source ms → HasPeriodMs plan f ms)
+    (its : slice_get plan.flows.items f ≡ Some flow) (paced : flow.pace ≡ Some pace) (few : IsAskedSeldom plan flow) (source : Source) (width : ℕ)
+    (room : room_for plan timing flow pace ≤ width) (every : (ms : ℕ) → IsSentEvery plan source ms → HasPeriodMs plan f ms)
+    (of_flow : (g : ℕ) → IsOfFlow g source → f ≡ g)
     (to_one : ((u m : ℕ) → source ≡ Announcing u m → ⊥) × ((u m k : ℕ) → source ≡ Carrying u m k → ⊥)) (s : Schedule)
     (frames : (p : ℕ) → p < s.count → IsFrameOf plan timing s (planned_held plan apart) no_broadcasts source (p * width) p) where
+  room_for_period : pace.period * bits_per_ms timing.bitrate ≤ width
+  room_for_period =
+      let parts : room_for plan timing flow pace ≡ pace.period * bits_per_ms timing.bitrate + first_period plan.requests.items flow * bits_per_ms timing.bitrate =
+      grind arith in
+      omega (arith, parts, room)
+
+  room_for_request : (g : ℕ) (answering : IsAnswering plan g) → f ≡ g → first_period plan.requests.items answering.flow * bits_per_ms timing.bitrate ≤ width
+  room_for_request g answering same =
+      let parts : room_for plan timing flow pace ≡ pace.period * bits_per_ms timing.bitrate + first_period plan.requests.items flow * bits_per_ms timing.bitrate =
+      grind arith in
+      subst (λ (x : FlowPlan). first_period plan.requests.items x * bits_per_ms timing.bitrate ≤ width)
+      (same_Some _ _ (sym its ∙ (ap (slice_get plan.flows.items) same ∙ answering.its))) (omega (arith, parts, room))
+
+  no_messages : KeepsBroadcasts plan timing s all_planned (of_one_source source width)
+  no_messages = none_sent plan timing s all_planned (of_one_source source width) (λ u. refl) (λ p u m same. to_one.0 u m same) (λ p u m k same. to_one.1 u m k same)
+
   pub one_source_kept : KeepsToPlan plan timing s all_planned (of_one_source source width) (planned_held plan apart)
   one_source_kept = keeps_all plan timing apart s (of_one_source source width) frames
       (λ p q ms differ same is_every.
-      a_period_apart plan timing f flow pace its paced width (steps_behind timing pace.period width room) p q ms differ (every ms is_every))
-      (none_sent plan timing s all_planned (of_one_source source width) (λ u. refl) (λ p u m same. to_one.0 u m same) (λ p u m k same. to_one.1 u m k same))
+      a_period_apart plan timing f flow pace its paced width (steps_behind timing pace.period width room_for_period) p q ms differ (every ms is_every))
+      (answers_given plan timing s (of_one_source source width) (planned_held plan apart) frames no_messages (λ p. p)
+      (λ p g answering in_p is. seldom_at plan f g flow its (of_flow g is) few answering) (λ p q in_p in_q same one. one)
+      (λ p q g answering in_p in_q is_p is_q order.
+      places_behind timing (first_period plan.requests.items answering.flow) width p q (room_for_request g answering (of_flow g is_p)) order)
+      (λ u m g answering below is. absurd (omega (arith, below))) (λ u m below. absurd (omega (arith, below))))
+      no_messages
 
   pub source_can_be_kept : IsLegal s → CanBeKept plan timing source s.count
   source_can_be_kept legal = record {

@@ -15,7 +15,7 @@ use Rattle.j39_load.specs.Asked.{asked_of, frames_asked}
 use Rattle.j39_load.specs.Delays.{announcements_place, packets_place}
 use Rattle.j39_load.specs.KeepsBroadcasts.{IsMessageToAll, KeepsTurns}
 use Rattle.j39_load.specs.KeepsPlan.{KeepsQueues, KeepsToPlan, origins_of, source_place}
-use Rattle.j39_load.specs.Loads.{load_of_flow}
+use Rattle.j39_load.specs.FlowLoads.{load_of_flow}
 use Rattle.j39_load.specs.PlannedFrames.{ComeInAnyOrder, ComeInTurn, planned_at}
 use Rattle.j39_load.specs.SentFrames.{FrameSources, HasTime, Held, IsBroadcastFrame, IsFrameOf, IsToAllBy, Source}
 use Rattle.j39_load.specs.SentFrames.{Single, First, InSession, Asking, Announcing, Carrying}

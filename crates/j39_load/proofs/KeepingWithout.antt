@@ -14,13 +14,16 @@ use Rattle.j39_network.specs.declared.plan.group_plan.GroupPlan.{GroupPlan}
 use Rattle.j39_network.specs.declared.plan.pace.Pace.{Pace}
 use Rattle.j39_network.specs.declared.plan.timing.Timing.{Timing}
 use Rattle.j39_network.specs.declared.plan.to.To.TheVariants.{One}
+use Rattle.j39_load.specs.KeepsAnswers.{IsAnswering, IsOfFlow}
+use Rattle.j39_load.specs.KeepsBroadcasts.{KeepsBroadcasts}
 use Rattle.j39_load.specs.KeepsPlan.{KeepsQueues, KeepsToPlan}
 use Rattle.j39_load.specs.KeptWithout.{CanBeKeptWithout}
 use Rattle.j39_load.specs.Loads.{bits_per_ms}
 use Rattle.j39_load.specs.SentFrames.{Announcing, Carrying, FrameSources, Held, IsFrameOf, IsMsBehind, IsSentByUnit, IsSentEvery}
 use Rattle.j39_load.specs.SentFrames.{Single, TakesPart, goes_to}
 use Rattle.j39_load.proofs.KeepingApart.{few_ident}
-use Rattle.j39_load.proofs.KeepingPlanned.{either_behind, slots_kept, keeps_all, keeps_queues, no_broadcasts, none_sent, period_is, planned_address, planned_controllers}
+use Rattle.j39_load.proofs.AnswersGiven.{answers_given, first_period}
+use Rattle.j39_load.proofs.KeepingPlanned.{IsAskedSeldom, either_behind, places_behind, seldom_at, slots_kept, keeps_all, keeps_queues, no_broadcasts, none_sent, period_is, planned_address, planned_controllers}
 use Rattle.j39_load.proofs.KeepingPlanned.{planned_held, planned_single}
 use Rattle.j39_load.proofs.Milliseconds.{at_once, in_ms_behind}
 use Rattle.j39_load.proofs.Slots.{ends_before, slots}
@@ -33,16 +36,20 @@ module _ (plan : Plan) (timing : Timing) (apart : ArePlannedApart (units_of plan
     (short : group.most ≤ 8) (number : IsPgn group.pgn) (to_it : flow.to ≡ One u) (not_by_it : flow.sender ≢ u) (g : ℕ) (other : FlowPlan) (its_pace : Pace)
     (second : GroupPlan) (other_is : slice_get plan.flows.items g ≡ Some other) (other_paced : other.pace ≡ Some its_pace)
     (second_is : slice_get plan.groups.items other.group ≡ Some second) (also_short : second.most ≤ 8) (its_number : IsPgn second.pgn)
-    (other_not_by_it : other.sender ≢ u) (first : ℕ → Bool) (n : ℕ) where
+    (other_not_by_it : other.sender ≢ u) (seldom : IsAskedSeldom plan flow) (other_seldom : IsAskedSeldom plan other) (first : ℕ → Bool)
+    (n : ℕ) where
   abbrev address : ℕ → ℕ
   address = planned_address plan apart
 
   abbrev held : Held
   held = planned_held plan apart
 
-  -- from one frame to the next both periods pass
+  -- from one frame to the next both periods pass, and those of the first requests for them
+  abbrev asks : ℕ
+  asks = first_period plan.requests.items flow + first_period plan.requests.items other
+
   abbrev both : ℕ
-  both = pace.period + its_pace.period
+  both = pace.period + its_pace.period + asks
 
   abbrev width : ℕ
   width = both * bits_per_ms timing.bitrate + 80
@@ -80,10 +87,23 @@ module _ (plan : Plan) (timing : Timing) (apart : ArePlannedApart (units_of plan
       let most : ms * bits_per_ms timing.bitrate ≤ both * bits_per_ms timing.bitrate = mul-le-mul_right (bits_per_ms timing.bitrate) few in
       in_ms_behind timing ms (p * width) (q * width) (omega (arith, far, most))
 
-  keeps : KeepsToPlan plan timing bus all_planned sent held
-  keeps = keeps_all plan timing apart bus sent (λ p in_p. frame p (first p) refl)
-      (λ p q ms differ one_source every. either_behind timing ms width (λ x y less. behind x y ms less (either_ms (first p) ms every)) p q differ)
-      (none_sent plan timing bus all_planned sent (λ u. refl) (λ p u m. not_announced (first p) u m) (λ p u m k. not_carried (first p) u m k))
+  seldom_of : (b : Bool) (k : ℕ) (answering : IsAnswering plan k) → IsOfFlow k (cond b (Single f) (Single g)) → IsAskedSeldom plan answering.flow
+  seldom_of true k answering is = seldom_at plan f k flow its is seldom answering
+  seldom_of false k answering is = seldom_at plan g k other other_is is other_seldom answering
+
+  either_asks : (b : Bool) (k : ℕ) (answering : IsAnswering plan k) → IsOfFlow k (cond b (Single f) (Single g))
+      → first_period plan.requests.items answering.flow ≤ both
+  either_asks true k answering is =
+      let same : flow ≡ answering.flow = same_Some _ _ (sym its ∙ (ap (slice_get plan.flows.items) is ∙ answering.its)) in
+      let period = ap (first_period plan.requests.items) same in
+      omega (arith, period)
+  either_asks false k answering is =
+      let same : other ≡ answering.flow = same_Some _ _ (sym other_is ∙ (ap (slice_get plan.flows.items) is ∙ answering.its)) in
+      let period = ap (first_period plan.requests.items) same in
+      omega (arith, period)
+
+  no_messages : KeepsBroadcasts plan timing bus all_planned sent
+  no_messages = none_sent plan timing bus all_planned sent (λ u. refl) (λ p u m. not_announced (first p) u m) (λ p u m k. not_carried (first p) u m k)
     where
       not_announced : (b : Bool) (v m : ℕ) → cond b (Single f) (Single g) ≡ Announcing v m → ⊥
       not_announced true v m same = let stated = same in cc
@@ -92,6 +112,19 @@ module _ (plan : Plan) (timing : Timing) (apart : ArePlannedApart (units_of plan
       not_carried : (b : Bool) (v m k : ℕ) → cond b (Single f) (Single g) ≡ Carrying v m k → ⊥
       not_carried true v m k same = let stated = same in cc
       not_carried false v m k same = let stated = same in cc
+
+  keeps : KeepsToPlan plan timing bus all_planned sent held
+  keeps = keeps_all plan timing apart bus sent (λ p in_p. frame p (first p) refl)
+      (λ p q ms differ one_source every. either_behind timing ms width (λ x y less. behind x y ms less (either_ms (first p) ms every)) p q differ)
+      (answers_given plan timing bus sent held (λ p in_p. frame p (first p) refl) no_messages (λ p. p)
+      (λ p k answering in_p is. seldom_of (first p) k answering is) (λ p q in_p in_q same one. one)
+      (λ p q k answering in_p in_q is_p is_q order.
+      places_behind timing (first_period plan.requests.items answering.flow) width p q
+      (let most : first_period plan.requests.items answering.flow * bits_per_ms timing.bitrate ≤ both * bits_per_ms timing.bitrate =
+      mul-le-mul_right (bits_per_ms timing.bitrate) (either_asks (first p) k answering is_p) in
+      omega (arith, most)) order)
+      (λ v m k answering below is. absurd (omega (arith, below))) (λ v m below. absurd (omega (arith, below))))
+      no_messages
 
   sent_by : (b : Bool) (v : ℕ) → IsSentByUnit plan (cond b (Single f) (Single g)) v → cond b flow.sender other.sender ≡ v
   sent_by true v from = ap (λ (h : FlowPlan). h.sender) (same_Some _ _ (sym its ∙ from.1)) ∙ from.2

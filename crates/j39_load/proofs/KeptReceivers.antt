@@ -28,12 +28,15 @@ use Rattle.j39_load.specs.Delays.{IsTurn, IsTurnBy, IsWaitIn, known_turn, longes
 use Rattle.j39_load.specs.KeepsPlan.{origins_of, source_place}
 use Rattle.j39_load.specs.KeptReceivers.{AreNotGivenUp}
 use Rattle.j39_load.specs.LoadFindings.{AreLoadFindings, AsksOfBus, further_findings, load_findings}
-use Rattle.j39_load.specs.Loads.{bits_inside, broadcast_of, load_of_flow, long_messages}
+use Rattle.j39_load.specs.Loads.{bits_inside, broadcast_of, long_messages, single_frames}
+use Rattle.j39_load.specs.AnswerStreams.{askers_of, broadcast_for, messages_for}
+use Rattle.j39_load.specs.FlowLoads.{load_of_flow}
 use Rattle.j39_load.specs.SentFrames.{Carrying, IsFrameOf, Source}
+use Rattle.j39_timing.specs.Waits.{IsSpaced, askers_want}
 use Rattle.j39_load.proofs.BoundedFlows.{sent_in_any_order}
 use Rattle.j39_load.proofs.KeepingTurns.{broadcasts_in_any_order}
 use Rattle.j39_load.proofs.Milliseconds.{before_bits, in_each_ms, least_inside, within_bits}
-use Rattle.j39_load.proofs.PlacedFrames.{at_place, carrying_read, load, own, unit_asks}
+use Rattle.j39_load.proofs.PlacedFrames.{at_place, carrying_read, load, unit_asks}
 use Rattle.j39_load.proofs.PositivePeriods.{all_paced}
 use Rattle.j39_load.proofs.Sending.{all_sent}
 use Rattle.j39_load.proofs.StreamsBefore.{none_of_two}
@@ -88,13 +91,14 @@ module _ (plan : Plan) (timing : Timing) (clean : Clean plan) (stays : UnitPlan 
   pause_of f flow pace group limit its paced of long goes written =
       let its_load : FlowLoad = load plan timing stays f flow pace group its paced of in
       let at = at_place plan timing stays f flow pace group its paced of in
-      let messages : its_load.messages ≡ ToAll (broadcast_of timing flow pace group) =
-      ap (λ (x : Bool). if x then Short (own plan timing stays f flow pace group its paced of)
+      let messages : its_load.messages ≡ ToAll (broadcast_for timing pace (askers_of plan.requests.items flow) (broadcast_of timing flow pace group)) =
+      ap (messages_for timing pace (askers_of plan.requests.items flow))
+      (ap (λ (x : Bool). if x then Short (single_frames timing plan.units.items stays flow pace group)
       else long_messages timing plan.units.items stays flow pace group flow.to) (lt-leb group.most 8 long)
-      ∙ ap (long_messages timing plan.units.items stays flow pace group) goes in
+      ∙ ap (long_messages timing plan.units.items stays flow pace group) goes) in
       let deadline : (broadcast_of timing flow pace group).deadline ≡ Some (bits_inside timing limit) = ap (option_map (bits_inside timing)) written in
       let (whole, bits, stated, each, within, is) = deadlines_kept plan timing stays delays asks none f (bits_inside timing limit) its_load
-      (broadcast_of timing flow pace group) at messages deadline in
+      (broadcast_for timing pace (askers_of plan.requests.items flow) (broadcast_of timing flow pace group)) at messages deadline in
       let same : is.load ≡ its_load = same_Some _ _ (same_Some _ _ (sym is.its ∙ at)) in
       let sender : is.broadcast.sender ≡ flow.sender = ap sender_of (sym is.long ∙ (ap (λ (l : FlowLoad). l.messages) same ∙ messages)) in
       let (time, turn, total) = is.time in
@@ -115,7 +119,8 @@ module _ (plan : Plan) (timing : Timing) (clean : Clean plan) (stays : UnitPlan 
       let there : get_or (frames_asked asked) (packets_place asked u) None ≡ Some (unit_asks plan timing stays sent.broadcasts u m message).packets =
       ap (λ (n : ℕ). get_or (frames_asked asked) n None) (sym place) ∙ second in
       let frames : pause.load.packets ≡ (unit_asks plan timing stays sent.broadcasts u m message).packets = same_Some _ _ (sym first ∙ there) in
-      let single : pause.load.packets.twin_ident ≡ None = ap (λ (x : FlowFrames). x.twin_ident) frames in
+      let single : (pause.load.packets.twin_ident ≡ None) × IsSpaced pause.load.packets.stream =
+      (ap (λ (x : FlowFrames). x.twin_ident) frames, ap (λ (x : FlowFrames). askers_want x.stream) frames) in
       let within = sent_in_any_order timing (frames_asked asked) (all_paced timing plan stays) (all_sent timing plan stays) buffering is_buffering (packets_place asked u)
       pause.load.packets first pause.wait s controllers planned (origins_of plan sent) legal come single pause.is in
       let queued = within_bits timing timing.broadcast_gap_most (frame_end s p) (s.queued q) gap in

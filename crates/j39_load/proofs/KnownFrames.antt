@@ -18,11 +18,13 @@ use Rattle.j39_load.specs.AnyQueues.{are_of_unit}
 use Rattle.j39_load.specs.Asked.{frames_asked}
 use Rattle.j39_load.specs.Broadcasts.{broadcasts_by}
 use Rattle.j39_load.specs.Damage.{damage_frames}
+use Rattle.j39_load.specs.AskedFlows.{asking_periods}
+use Rattle.j39_load.specs.KeepsAnswers.{IsAnswering, IsOfFlow, answered_in}
 use Rattle.j39_load.specs.KeepsPlan.{source_place, source_turn}
 use Rattle.j39_load.specs.Loads.{any_unit, bits_at_least, destination_at, group_ident, is_any}
 use Rattle.j39_load.specs.PlannedFrames.{planned_at}
 use Rattle.j39_load.specs.RequestLoads.{request_ident}
-use Rattle.j39_load.specs.SentFrames.{Held, IsRequestFrame, IsSentByUnit, IsSentEvery, IsSingleFrame}
+use Rattle.j39_load.specs.SentFrames.{Held, IsRequestFrame, IsSentByUnit, IsSentEvery, IsSingleFrame, IsWithinUnitMs}
 use Rattle.j39_load.specs.SentFrames.{HasOwnIdentifier, HasTime, IsFirstFrame, Source, TakesPart, goes_to}
 use Rattle.j39_load.specs.SentFrames.{Single, First, InSession, Asking}
 use Rattle.j39_load.proofs.PlacedFrames.{all, asked}
@@ -30,6 +32,8 @@ use Rattle.j39_load.specs.Broadcasts.{least_packets, spaced_stream}
 use Rattle.j39_load.specs.Demands.{announcements_demand, packets_demand}
 use Rattle.j39_load.specs.SentFrames.{Announcing, Carrying}
 use Rattle.j39_timing.specs.declared.stream.Stream.{Stream}
+use Rattle.j39_timing.specs.declared.wants.Want.{Want}
+use Rattle.j39_timing.specs.Waits.{Demand, IsSpaced, askers_want, demand_of}
 use Rattle.j39_load.proofs.Sending.{IsSent, all_sent}
 use Rattle.j39_load.proofs.StreamsBefore.{get_or_inside, with_damage}
 use Rattle.j39_timing.specs.TimedFrames.{Schedule}
@@ -118,12 +122,23 @@ module _ (plan : Plan) (timing : Timing) (stays : UnitPlan → Bool) where
   abbrev units : List UnitPlan
   units = plan.units.items
 
-  -- of what isn't a long message to all it is reported how far messages are apart, and nothing is wanted less than that
+  -- it is of a flow that comes only as an answer, and of this so much is wanted as is asked for
+  pub record IsAskedBy (source : Source) (stream : Stream) (want : Want) : Type 0 where
+    pub place : ℕ
+    pub answering : IsAnswering plan place
+    pub of_flow : IsOfFlow place source
+    pub turn : source_turn plan source < want.frames
+    pub period : want.period ≡ bits_at_least timing answering.pace.period
+    pub askers : length (asking_periods plan.requests.items answering.flow) ≤ want.more + 1
+    pub late : (moment at : ℕ) → IsWithinUnitMs timing (answered_in answering.pace source) moment at → at ≤ moment + (stream.jitter + want.jitter)
+
+  -- of what isn't a long message to all it is reported how far messages are apart, unless others ask for them, and its unit wants nothing less than that
   pub record IsPacedBy (source : Source) (stream : Stream) : Type 0 where
     pub ms : ℕ
-    pub every : IsSentEvery plan source ms
+    pub every : IsSpaced stream → IsSentEvery plan source ms
     pub period : stream.period ≡ bits_at_least timing ms
-    pub unwanted : stream.wanted ≡ None
+    pub unwanted : (demands : List Demand) → demand_of demands stream ≡ None
+    pub asked : (want : Want) → askers_want stream ≡ Some want → IsAskedBy source stream want
 
   abbrev pub IsPaced : Source → Stream → Type 0
   IsPaced (Single f) stream = IsPacedBy (Single f) stream

@@ -1,3 +1,6 @@
+pub mod AnswerTimes
+pub mod AnswersGiven
+pub mod Askers
 pub mod AgeLaws
 pub mod AnyQueues
 pub mod AnyTraffic
@@ -18,6 +21,7 @@ pub mod DamagedFirst
 pub mod DamagedPlaces
 mod FoundWaits
 pub mod KeepingAll
+pub mod KeepingAnswers
 pub mod KeepingAnyErrors
 pub mod KeepingAnyOrder
 pub mod KeepingApart
@@ -65,4 +69,5 @@ pub mod WantedPlaces
 pub mod WholeMessages
 pub mod WithoutFlows
 pub mod LongRuns
+pub mod UnaskedFlows
 pub mod WantedFlows

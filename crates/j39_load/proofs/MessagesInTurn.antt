@@ -25,8 +25,10 @@ use Rattle.j39_load.specs.KeepsBroadcasts.{KeepsTurns}
 use Rattle.j39_load.specs.KeepsPlan.{KeepsQueues, KeepsToPlan, origins_of, source_place}
 use Rattle.j39_load.specs.KeptDeadlines.{AreSentWhole, TakeTurns, whole_from}
 use Rattle.j39_load.specs.LoadFindings.{AsksOfBus}
-use Rattle.j39_load.specs.Loads.{bits_at_most, load_of_flow}
+use Rattle.j39_load.specs.Loads.{bits_at_most}
+use Rattle.j39_load.specs.FlowLoads.{load_of_flow}
 use Rattle.j39_load.specs.SentFrames.{Announcing, Broadcasts, Carrying, FrameSources, Held, IsToAllBy}
+use Rattle.j39_timing.specs.Waits.{IsSpaced, askers_want}
 use Rattle.j39_load.proofs.BoundedFlows.{sent_in_any_order}
 use Rattle.j39_load.proofs.KeepingTurns.{broadcasts_in_any_order}
 use Rattle.j39_load.proofs.Milliseconds.{within_bits}
@@ -248,14 +250,16 @@ module _ (plan : Plan) (timing : Timing) (clean : Clean plan) (stays : UnitPlan 
     sent_first : (m : ℕ) → m < count → AreSentWithin s planned of (announcements_place asked u) has.load.announcements.stream has.announced
     sent_first m below =
         let come = (broadcasts_in_any_order plan timing stays clean asks.standing s controllers planned sent held u m below legal keeps queues turns).0 in
-        let single : has.load.announcements.twin_ident ≡ None = ap (λ (l : UnitLoad). l.announcements.twin_ident) (asks_of m below) in
+        let single : (has.load.announcements.twin_ident ≡ None) × IsSpaced has.load.announcements.stream =
+        (ap (λ (l : UnitLoad). l.announcements.twin_ident) (asks_of m below), ap (λ (l : UnitLoad). askers_want l.announcements.stream) (asks_of m below)) in
         sent_in_any_order timing (frames_asked asked) (all_paced timing plan stays) (all_sent timing plan stays) buffering is_buffering (announcements_place asked u)
         has.load.announcements (announcements_read asked u has.load has.at) has.announced s controllers planned of legal come single has.first
 
     sent_rest : (m : ℕ) → m < count → AreSentWithin s planned of (packets_place asked u) has.load.packets.stream has.sent
     sent_rest m below =
         let come = (broadcasts_in_any_order plan timing stays clean asks.standing s controllers planned sent held u m below legal keeps queues turns).1 in
-        let single : has.load.packets.twin_ident ≡ None = ap (λ (l : UnitLoad). l.packets.twin_ident) (asks_of m below) in
+        let single : (has.load.packets.twin_ident ≡ None) × IsSpaced has.load.packets.stream =
+        (ap (λ (l : UnitLoad). l.packets.twin_ident) (asks_of m below), ap (λ (l : UnitLoad). askers_want l.packets.stream) (asks_of m below)) in
         sent_in_any_order timing (frames_asked asked) (all_paced timing plan stays) (all_sent timing plan stays) buffering is_buffering (packets_place asked u)
         has.load.packets (packets_read asked u has.load has.at) has.sent s controllers planned of legal come single has.rest
 
@@ -348,14 +352,14 @@ module _ (plan : Plan) (timing : Timing) (clean : Clean plan) (stays : UnitPlan 
 
     -- ---- a flow of it
 
-    module _ (takes : TakeTurns b (whole_from timing s planned sent sends)) (f late apart : ℕ) (short : turn.time ≤ apart)
-        (wanted : (m : ℕ) → m < count → b.flow u m ≡ f → b.wanted u m ≤ b.release u m + late)
-        (spaced : (l m : ℕ) → l < m → m < count → b.flow u l ≡ f → b.flow u m ≡ f → b.release u l + apart ≤ b.release u m) where
+    module _ (takes : TakeTurns b (whole_from timing s planned sent sends)) (f late apart : ℕ) (origin : ℕ → ℕ) (short : turn.time ≤ apart)
+        (wanted : (m : ℕ) → m < count → b.flow u m ≡ f → b.wanted u m ≤ origin m + late)
+        (spaced : (l m : ℕ) → l < m → m < count → b.flow u l ≡ f → b.flow u m ≡ f → origin l + apart ≤ origin m) where
       -- a message of it, where those before it are over when it is wanted at last
-      module _ (m : ℕ) (below : m < count) (its : b.flow u m ≡ f) (seen : b.release u m + (late + turn.time) < s.now)
-          (earlier : (i : ℕ) → i < m → b.flow u i ≡ f → ends i ≤ b.release u m + late) where
+      module _ (m : ℕ) (below : m < count) (its : b.flow u m ≡ f) (seen : origin m + (late + turn.time) < s.now)
+          (earlier : (i : ℕ) → i < m → b.flow u i ≡ f → ends i ≤ origin m + late) where
         abbrev by : ℕ
-        by = b.release u m + late
+        by = origin m + late
 
         module _ (j : ℕ) (inside : j ≤ m) (over : (i : ℕ) → i < j → ends i ≤ by) (goes_on : by < ends j) where
           open_from : (i : ℕ) → j ≤ i → i ≤ m → by < ends i
@@ -386,7 +390,7 @@ module _ (plan : Plan) (timing : Timing) (clean : Clean plan) (stays : UnitPlan 
                 ]
               ]
 
-          of_open : ends m ≤ b.release u m + (late + turn.time)
+          of_open : ends m ≤ origin m + (late + turn.time)
           of_open =
               let far : j + (m - j) ≡ m = omega (arith, inside) in
               let most = turn_most j (m - j) m far below other_flows in
@@ -394,16 +398,16 @@ module _ (plan : Plan) (timing : Timing) (clean : Clean plan) (stays : UnitPlan 
               let same : ends (j + (m - j)) ≡ ends m = ap ends far in
               omega (arith, chained, most, same)
 
-        one_ends : ends m ≤ b.release u m + (late + turn.time)
+        one_ends : ends m ≤ origin m + (late + turn.time)
         one_ends =
-            let (j, over, left_open) = first_open ends (b.release u m + late) (suc m) in
+            let (j, over, left_open) = first_open ends (origin m + late) (suc m) in
             elim left_open [
               | inl all ↦ let ended = over m (omega (arith, all)) in omega (arith, ended)
               | inr (inside, goes_on) ↦ of_open j (omega (arith, inside)) over goes_on
             ]
 
       -- each message of it is whole in time
-      pub flow_ends : (n m : ℕ) → m < n → m < count → b.flow u m ≡ f → b.release u m + (late + turn.time) < s.now → ends m ≤ b.release u m + (late + turn.time)
+      pub flow_ends : (n m : ℕ) → m < n → m < count → b.flow u m ≡ f → origin m + (late + turn.time) < s.now → ends m ≤ origin m + (late + turn.time)
       flow_ends zero m fuel below its seen = absurd (omega (arith, fuel))
       flow_ends (suc n) m fuel below its seen = one_ends m below its seen (λ i before its_flow.
           let behind = spaced i m before below its_flow its in

@@ -39,11 +39,14 @@ use Rattle.j39_load.specs.AnyQueues.{keep_order, leasts_of, may_be_passed, buffe
 use Rattle.j39_load.specs.Asked.{Asked, asked_by, asked_of, frames_asked}
 use Rattle.j39_load.specs.Broadcasts.{broadcast_frames, broadcasts_by, known_unit_load, least_packets, unit_loads_of}
 use Rattle.j39_load.specs.Delays.{HasDelayBy, IsDelay, IsDelayOf, IsDelayWithin, IsFrameDelay, IsShortDelay, IsTurnBy, IsWaitIn, IsWaitOf, IsWholeTime}
-use Rattle.j39_load.specs.Delays.{AreFlowDelays, announcements_place, any_delay, blocking, known_turn, packets_place, streams_before, whole_time}
+use Rattle.j39_load.specs.Delays.{AreFlowDelays, announcements_place, any_delay, blocking_of, known_turn, packets_place, streams_before, whole_time}
 use Rattle.j39_load.specs.Demands.{announcements_demand, demands_of, packets_demand}
 use Rattle.j39_load.specs.LoadFindings.{AsksOfBus}
-use Rattle.j39_load.specs.Loads.{any_unit, destination_at, flow_load, frames_to_one, greatest_address, group_ident, is_any, least_address, load_of_flow}
-use Rattle.j39_load.specs.Loads.{loads_of, long_messages}
+use Rattle.j39_load.specs.Loads.{any_unit, destination_at, flow_load, frames_to_one, greatest_address, group_ident, is_any, least_address}
+use Rattle.j39_load.specs.AnswerStreams.{askers_of, load_for}
+use Rattle.j39_load.specs.FlowLoads.{load_of_flow}
+use Rattle.j39_load.specs.Loads.{long_messages}
+use Rattle.j39_load.specs.FlowLoads.{loads_of}
 use Rattle.j39_load.specs.Loads.{of_unit, packet_frames, packet_ident, session_ident, single_frames}
 use Rattle.j39_load.specs.RequestLoads.{load_of_request, request_ident, request_load, request_loads_of}
 use Rattle.j39_findings.specs.Standing.{DecidesWhoStays}
@@ -232,7 +235,11 @@ module _ (plan vehicle : Plan) (timing : Timing) (stays other : UnitPlan → Boo
   flow_same flow None group paced is = rw paced refl
   flow_same flow (Some pace) None paced is = rw (groups, paced, is) refl
   flow_same flow (Some pace) (Some group) paced is =
-      rw (groups, paced, is) (ap Some (load_same timing stays other plan.units.items vehicle.units.items count both flow pace group))
+      rw (groups, paced, is)
+      (ap (λ (l : FlowLoad). Some (load_for timing pace (askers_of plan.requests.items flow) l))
+      (load_same timing stays other plan.units.items vehicle.units.items count both flow pace group)
+      ∙ ap (λ (asking : List RequestPlan). Some (load_for timing pace (askers_of asking flow) (flow_load timing vehicle.units.items other flow pace group)))
+      (sym requests))
 
   loads_same : (list : List FlowPlan) → map (load_of_flow timing plan stays) list ≡ map (load_of_flow timing vehicle other) list
   loads_same [] = refl
@@ -303,8 +310,8 @@ module _ (timing : Timing) (all : List (Option FlowFrames)) (flow : ℕ) where
   one_within : (frames : FlowFrames) (most bits more : ℕ) → IsDelayWithin timing all flow frames most bits → IsDelayWithin timing all flow frames most more
       → bits ≡ more
   one_within frames most bits more is another =
-      let above = not_less (demands_of all) (blocking timing frames.greatest_ident) (streams_before timing flow frames all) is.0 another.0 is.1.demand_fits another.2 in
-      let below = not_less (demands_of all) (blocking timing frames.greatest_ident) (streams_before timing flow frames all) another.0 is.0 another.1.demand_fits is.2 in
+      let above = not_less (demands_of all) (blocking_of timing frames) (streams_before timing flow frames all) is.0 another.0 is.1.demand_fits another.2 in
+      let below = not_less (demands_of all) (blocking_of timing frames) (streams_before timing flow frames all) another.0 is.0 another.1.demand_fits is.2 in
       let waits : is.0 ≡ another.0 = omega (arith, above, below) in
       is.3 ∙ ap (delay_of frames.stream) waits ∙ sym another.3
 
@@ -388,7 +395,7 @@ module _ (timing : Timing) (asked : Asked) (buffering : Buffering) where
           → wait ≡ other
       go true true is another = is ∙ sym another
       go true false is another = one_wait timing (demands_of buffering.frames) (streams_before timing place frames buffering.frames)
-          (blocking timing frames.greatest_ident) wait other (wait_among timing buffering.frames place frames wait is)
+          (blocking_of timing frames) wait other (wait_among timing buffering.frames place frames wait is)
           (wait_among timing buffering.frames place frames other another)
       go false passed is another = is ∙ sym another
 

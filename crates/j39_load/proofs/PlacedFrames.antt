@@ -23,7 +23,9 @@ use Rattle.j39_load.specs.Asked.{Asked, asked_of, frames_asked, own_frames}
 use Rattle.j39_load.specs.Broadcasts.{broadcasts_by, known_unit_load, unit_loads_of}
 use Rattle.j39_load.specs.Damage.{damage_frames}
 use Rattle.j39_load.specs.KeepsPlan.{source_place, units_stated}
-use Rattle.j39_load.specs.Loads.{flow_load, load_of_flow, loads_of, long_messages, packet_frames, single_frames}
+use Rattle.j39_load.specs.AnswerStreams.{askers_of, broadcast_for, frames_for, messages_for}
+use Rattle.j39_load.specs.Loads.{long_messages, packet_frames, single_frames}
+use Rattle.j39_load.specs.FlowLoads.{asked_load, load_of_flow, loads_of}
 use Rattle.j39_load.specs.PlannedFrames.{traffic_of}
 use Rattle.j39_load.specs.RequestLoads.{load_of_request, request_load}
 use Rattle.j39_load.specs.SentFrames.{Asking}
@@ -60,8 +62,12 @@ module _ (plan : Plan) (timing : Timing) (stays : UnitPlan → Bool) where
 
   module _ (f : ℕ) (flow : FlowPlan) (pace : Pace) (group : GroupPlan) (its : slice_get plan.flows.items f ≡ Some flow) (paced : flow.pace ≡ Some pace)
       (of : slice_get plan.groups.items flow.group ≡ Some group) where
+    -- how many requests ask for it
+    abbrev pub its_askers : ℕ
+    its_askers = askers_of plan.requests.items flow
+
     abbrev pub load : FlowLoad
-    load = flow_load timing units stays flow pace group
+    load = asked_load timing plan.requests.items units stays flow pace group
 
     its_load : load_of_flow timing plan stays flow ≡ Some load
     its_load = rw (paced, of) refl
@@ -72,7 +78,7 @@ module _ (plan : Plan) (timing : Timing) (stays : UnitPlan → Bool) where
 
     -- each message of which goes in one frame
     abbrev pub own : FlowFrames
-    own = single_frames timing units stays flow pace group
+    own = frames_for timing pace its_askers (single_frames timing units stays flow pace group)
 
     pub of_one_frame : group.most ≤ 8 → load.messages ≡ Short own
     of_one_frame short = rw (le-leb group.most 8 short) refl
@@ -93,12 +99,14 @@ module _ (plan : Plan) (timing : Timing) (stays : UnitPlan → Bool) where
 
     -- whose messages are long, to one unit
     abbrev pub in_session : ℕ → FlowFrames
-    in_session v = packet_frames timing units stays flow v pace (packets_of group.most)
+    in_session v = frames_for timing pace its_askers (packet_frames timing units stays flow v pace (packets_of group.most))
 
     pub to_one : (v : ℕ) → 8 < group.most → flow.to ≡ One v → load.messages ≡ ToOne (in_session v)
     to_one v long goes =
-        ap (λ (b : Bool). if b then Short own else long_messages timing units stays flow pace group flow.to) (lt-leb group.most 8 long)
-        ∙ ap (long_messages timing units stays flow pace group) goes
+        ap (messages_for timing pace its_askers)
+        (ap (λ (b : Bool). if b then Short (single_frames timing units stays flow pace group) else long_messages timing units stays flow pace group flow.to)
+        (lt-leb group.most 8 long)
+        ∙ ap (long_messages timing units stays flow pace group) goes)
 
     pub session_read : (v : ℕ) → 8 < group.most → flow.to ≡ One v → get_or (frames_asked asked) f None ≡ Some (in_session v)
     session_read v long goes =
@@ -152,7 +160,7 @@ module _ (plan : Plan) (timing : Timing) (stays : UnitPlan → Bool) where
 
   module _ (b : Broadcasts) (u m : ℕ) (one : IsMessageToAll plan timing b u m) where
     abbrev pub its_broadcast : Broadcast
-    its_broadcast = broadcast_of timing one.flow one.pace one.group
+    its_broadcast = broadcast_for timing one.pace (askers_of plan.requests.items one.flow) (broadcast_of timing one.flow one.pace one.group)
 
     pub unit_planned : u < length units
     unit_planned = subst (λ (x : ℕ). x < length units) one.from
@@ -163,9 +171,10 @@ module _ (plan : Plan) (timing : Timing) (stays : UnitPlan → Bool) where
 
     pub to_all_units : (load (b.flow u m) one.flow one.pace one.group one.its one.paced one.of).messages ≡ ToAll its_broadcast
     to_all_units =
-        ap (λ (x : Bool). if x then Short (own (b.flow u m) one.flow one.pace one.group one.its one.paced one.of)
+        ap (messages_for timing one.pace (askers_of plan.requests.items one.flow))
+        (ap (λ (x : Bool). if x then Short (single_frames timing units stays one.flow one.pace one.group)
         else long_messages timing units stays one.flow one.pace one.group one.flow.to) (lt-leb one.group.most 8 one.long)
-        ∙ ap (long_messages timing units stays one.flow one.pace one.group) one.to_all
+        ∙ ap (long_messages timing units stays one.flow one.pace one.group) one.to_all)
 
     -- its flow's broadcast is one of the unit's
     pub is_by : broadcast_by u (get_or asked.flows (b.flow u m) None) ≡ Some its_broadcast

@@ -28,16 +28,17 @@ use Rattle.j39_load.specs.declared.loads.unit_load.UnitLoad.{UnitLoad}
 use Rattle.j39_load.specs.Asked.{announcements_of_unit, asked_of, frames_asked, frames_of_flow, frames_of_request, own_frames, packets_of_unit, singles_of_flow}
 use Rattle.j39_load.specs.Broadcasts.{broadcast_by, broadcast_from, broadcasts_by, known_unit_load, least_announced, least_packets, unit_loads_of}
 use Rattle.j39_load.specs.Damage.{damage_frames, damage_stream, first_of_all}
-use Rattle.j39_load.specs.Loads.{bits_at_least, bits_inside, flow_load, has_short, is_always_short, load_of_flow, load_of_messages, loads_of, long_messages}
+use Rattle.j39_load.specs.Loads.{bits_at_least, bits_inside, has_short, is_always_short, load_of_messages, long_messages}
+use Rattle.j39_load.specs.AnswerStreams.{askers_of, load_for, messages_for}
+use Rattle.j39_load.specs.FlowLoads.{asked_load, load_of_flow, loads_of}
 use Rattle.j39_load.specs.Loads.{limit_by, single_frames, time_limit}
 use Rattle.j39_load.specs.RequestLoads.{load_of_request, request_load, request_loads_of}
 use Rattle.j39_load.proofs.Milliseconds.{some_bits, some_inside}
 use Rattle.j39_timing.specs.FrameBits.{error_frame, longest_frame}
-use Rattle.j39_timing.specs.Traffic.{IsSingle}
 
 -- what the messages of a flow have, of this limit
 abbrev pub ArePaced : ℕ → Messages → Type 0
-ArePaced limit (Short frames) = (0 < frames.stream.period) × IsSingle frames.stream × (limit ≤ frames.stream.period)
+ArePaced limit (Short frames) = (0 < frames.stream.period) × (frames.stream.frames ≡ 1) × (limit ≤ frames.stream.period)
 ArePaced limit (ToOne frames) = 0 < frames.stream.period
 ArePaced limit (ToAll broadcast) = 2 ≤ broadcast.least_packets
 
@@ -57,7 +58,7 @@ fewer_bits timing period None = omega arith
 fewer_bits timing period (Some deadline) = omega arith
 
 of_flow : (timing : Timing) (plan : Plan) (stays : UnitPlan → Bool) (flow : FlowPlan) (pace : Pace) (group : GroupPlan)
-    → IsOfFlow (flow_load timing plan.units.items stays flow pace group)
+    → IsOfFlow (asked_load timing plan.requests.items plan.units.items stays flow pace group)
 of_flow timing plan stays flow pace group = by (is_always_short group) (has_short group)
   where
     pos : 0 < bits_at_least timing pace.period
@@ -69,17 +70,20 @@ of_flow timing plan stays flow pace group = by (is_always_short group) (has_shor
     single : FlowFrames
     single = single_frames timing plan.units.items stays flow pace group
 
-    long : (to : To) → ArePaced (time_limit timing pace) (long_messages timing plan.units.items stays flow pace group to)
+    askers : ℕ
+    askers = askers_of plan.requests.items flow
+
+    long : (to : To) → ArePaced (time_limit timing pace) (messages_for timing pace askers (long_messages timing plan.units.items stays flow pace group to))
     long ToAllUnits = omega arith
     long (One v) = pos
 
-    by : (short has : Bool) → IsOfFlow (record {
+    by : (short has : Bool) → IsOfFlow (load_for timing pace askers (record {
       messages = if short then Short single else long_messages timing plan.units.items stays flow pace group flow.to;
       singles = if not short && has then Some single else None;
       limit = time_limit timing pace;
       bits_per_second = load_of_messages timing (if short then Short single else long_messages timing plan.units.items stays flow pace group flow.to) pace.period;
-    })
-    by true has = record { messages = (pos, (refl, refl), fewer); singles = tt }
+    }))
+    by true has = record { messages = (pos, refl, fewer); singles = tt }
     by false true = record { messages = long flow.to; singles = pos }
     by false false = record { messages = long flow.to; singles = tt }
 

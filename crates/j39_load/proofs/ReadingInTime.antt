@@ -1,7 +1,7 @@
 -- What was received last of a flow that meets a need is young, and reads as it was written.
 use Rattle.std.proofs.Common.{◌≡◌, ℕ, ◌+◌, ◌*◌, ◌<◌, ◌≤◌, Bool, List, [], ◌∷◌, ◌++◌, length, get_or, All, Option, Some, None}
-use Rattle.std.proofs.Common.{sym, ap, ◌∙◌, subst, inl, inr, arith}
-use Rattle.std.proofs.lemmas.Option.{get_or_from_slice_get, slice_get_cases, slice_get_within}
+use Rattle.std.proofs.Common.{sym, ap, ◌∙◌, subst, inl, inr, arith, option_map}
+use Rattle.std.proofs.lemmas.Option.{get_or_from_slice_get, slice_get_cases, slice_get_within, same_Some, slice_get-map}
 use Rattle.std.specs.List.{HoldsAt, slice_get}
 use Rattle.j39_signal.specs.Bits.{all_ones, raw_of}
 use Rattle.j39_signal.specs.Laid.{Chain, IsBlank, KeepsWrites, Write, last_payload}
@@ -30,6 +30,9 @@ use Rattle.j39_load.specs.FreshNeeds.{IsNeedFresh}
 use Rattle.j39_load.specs.LoadFindings.{AreLoadFindings}
 use Rattle.j39_load.specs.PlannedFrames.{AreFramesOfPlan, IsBounded, planned_at, traffic_of}
 use Rattle.j39_load.specs.ReadInTime.{AreNeedsRead, AreReadYoung, AreWritten, CarryWritten, IsNeedRead, ReadAsWritten, signals_of_bytes}
+use Rattle.j39_load.specs.FlowLoads.{load_of_flow}
+use Rattle.j39_timing.specs.Waits.{IsSpaced}
+use Rattle.j39_load.proofs.UnaskedFlows.{unasked_spaced}
 use Rattle.j39_load.proofs.AgeLaws.{fresh_where_checked}
 use Rattle.j39_load.proofs.PositivePeriods.{ArePaced, of_loads}
 use Rattle.j39_load.proofs.StreamsBefore.{own_read, with_damage}
@@ -130,11 +133,11 @@ module _ (plan : Plan) (timing : Timing) (stays : UnitPlan → Bool) (flow bits 
   paced = subst (ArePaced bound.load.limit) bound.short (of_loads timing plan stays flow bound.load bound.its).messages
 
   module _ (s : Schedule) (planned : ℕ → Bool) (of : Origins) (known : AreFramesOfPlan timing asked s planned of flow)
-      (in_time : IsStreamInTime s planned of flow bound.frames.stream bound.wait) where
+      (in_time : IsStreamInTime s planned of flow bound.frames.stream bound.wait) (spaced : IsSpaced bound.frames.stream) where
     come : ComeOneByOne s planned of traffic.count traffic.stream flow bound.wait
     come = record {
       of_streams = known.of_streams;
-      single = subst (λ (f : FlowFrames). IsSingle f.stream) (sym placed) paced.1;
+      single = subst (λ (f : FlowFrames). IsSingle f.stream) (sym placed) (paced.1, spaced);
       in_time = subst (λ (f : FlowFrames). IsStreamInTime s planned of flow f.stream bound.wait) (sym placed) in_time;
       within_period = subst (λ (f : FlowFrames). delay_of f.stream bound.wait ≤ f.stream.period) (sym placed)
           (let sum = bound.sum in
@@ -184,6 +187,13 @@ module _ (plan : Plan) (timing : Timing) (clean : Clean plan) (stays : UnitPlan 
     | inr (past, none) ↦ absurd (let below = group_below in omega (arith, past, below))
   ]
 
+  -- its flow isn't sent as an answer
+  its_spaced : IsSpaced fresh.bounded.frames.stream
+  its_spaced = unasked_spaced timing plan stays fresh.flow fresh.bounded.load fresh.bounded.frames fresh.bounded.short fresh.unasked
+      (same_Some _ (Some fresh.bounded.load)
+      (sym (slice_get-map (load_of_flow timing plan stays) plan.flows.items fresh.place ∙ ap (option_map (load_of_flow timing plan stays)) fresh.its)
+      ∙ fresh.bounded.its))
+
   need_read : IsNeedRead plan timing (asked_of timing plan stays) delays need within
   need_read =
       let (group, at) = its_group in
@@ -194,18 +204,19 @@ module _ (plan : Plan) (timing : Timing) (clean : Clean plan) (stays : UnitPlan 
         in_any_order = λ silent s controllers planned of legal known bytes written from to coming seen.
             both plan clean fresh.flow.group group at s planned of fresh.place bytes written (silent + fresh.bits)
             (from + fresh.bits) (to + fresh.bits)
-            (of_flow plan timing stays fresh.place fresh.bits fresh.bounded s planned of known.known (fresh.bounded.in_any_order s controllers planned of legal known)
+            (of_flow plan timing stays fresh.place fresh.bits fresh.bounded s planned of known.known (fresh.bounded.in_any_order s controllers planned of legal known) its_spaced
             silent from to
             (newest_in_any_order s controllers planned of _ _ fresh.place fresh.bounded.wait silent from to legal
-            (come plan timing stays fresh.place fresh.bits fresh.bounded s planned of known.known (fresh.bounded.in_any_order s controllers planned of legal known)) coming)
+            (come plan timing stays fresh.place fresh.bits fresh.bounded s planned of known.known (fresh.bounded.in_any_order s controllers planned of legal known)
+            its_spaced) coming)
             seen);
         in_order = λ silent ordered s planned of legal known bytes written from to coming seen.
             both plan clean fresh.flow.group group at s planned of fresh.place bytes written (silent + fresh.bits)
             (from + fresh.bits) (to + fresh.bits)
-            (of_flow plan timing stays fresh.place fresh.bits fresh.bounded s planned of known (fresh.bounded.bounds ordered s planned of legal known)
+            (of_flow plan timing stays fresh.place fresh.bits fresh.bounded s planned of known (fresh.bounded.bounds ordered s planned of legal known) its_spaced
             silent from to
             (newest_in_order s planned of _ _ fresh.place fresh.bounded.wait silent from to legal
-            (come plan timing stays fresh.place fresh.bits fresh.bounded s planned of known (fresh.bounded.bounds ordered s planned of legal known)) coming)
+            (come plan timing stays fresh.place fresh.bits fresh.bounded s planned of known (fresh.bounded.bounds ordered s planned of legal known) its_spaced) coming)
             seen);
       }
 

@@ -31,6 +31,7 @@ use Rattle.j39_load.specs.Loads.{of_unit, packet_frames, single_frames}
 use Rattle.j39_load.specs.RequestLoads.{request_load}
 use Rattle.j39_timing.specs.FrameBits.{longest_frame}
 use Rattle.j39_load.specs.PlannedFrames.{AreAllOrdered, no_frames, planned_at}
+use Rattle.j39_load.specs.AnswerStreams.{broadcast_for, frames_for}
 use Rattle.j39_load.proofs.EachFrames.{each_fits}
 use Rattle.j39_load.proofs.StreamsBefore.{get_or_inside}
 
@@ -121,15 +122,17 @@ module _ (timing : Timing) (plan : Plan) (stays : UnitPlan → Bool) where
   placed : (v : ℕ) → v < length units → v < unit_limit
   placed v below = let few = plan.unit_count in omega (arith, below, few)
 
-  single : (flow : FlowPlan) (pace : Pace) (group : GroupPlan) → IsSent (single_frames timing units stays flow pace group)
-  single flow pace group = record {
+  single : (flow : FlowPlan) (pace : Pace) (group : GroupPlan) (askers : ℕ)
+      → IsSent (frames_for timing pace askers (single_frames timing units stays flow pace group))
+  single flow pace group askers = record {
     short = short_bytes group;
     rises = λ is. absurd (false≢true is);
     placed = λ v is. placed v (one_end units flow.sender v is);
   }
 
-  session : (flow : FlowPlan) (v : ℕ) (pace : Pace) (packets : ℕ) → IsSent (packet_frames timing units stays flow v pace packets)
-  session flow v pace packets = record {
+  session : (flow : FlowPlan) (v : ℕ) (pace : Pace) (packets askers : ℕ)
+      → IsSent (frames_for timing pace askers (packet_frames timing units stays flow v pace packets))
+  session flow v pace packets askers = record {
     short = omega arith;
     rises = λ is.
         let held : ℕ → ℕ = of_unit units (greatest_address stays) in
@@ -164,7 +167,7 @@ module _ (timing : Timing) (plan : Plan) (stays : UnitPlan → Bool) where
   }
 
   pub all_sent : All (λ (frames : Option FlowFrames). IfSome frames IsSent) (frames_asked (asked_of timing plan stays))
-  all_sent = each_fits timing plan stays IsSent single session broadcast (λ flow pace group. wants (broadcast_of timing flow pace group)) asking
+  all_sent = each_fits timing plan stays IsSent single session broadcast (λ flow pace group askers. wants (broadcast_for timing pace askers (broadcast_of timing flow pace group))) asking
 
 -- ---- plans whose units all keep order
 
@@ -187,8 +190,8 @@ module _ (timing : Timing) (plan : Plan) (stays : UnitPlan → Bool)
       ∙ ap (λ (o : Option ℕ). not (false || is_some o)) (none v)
 
   all_ordered : All (λ (frames : Option FlowFrames). IfSome frames (λ (f : FlowFrames). keep_order f ≡ true)) (frames_asked (asked_of timing plan stays))
-  all_ordered = each_fits timing plan stays (λ (f : FlowFrames). keep_order f ≡ true) (λ flow pace group. one_none flow.sender)
-      (λ flow v pace packets. two_none flow.sender v) (λ pgn u gaps place. one_none u) (λ flow pace group. refl) (λ request period. one_none request.sender)
+  all_ordered = each_fits timing plan stays (λ (f : FlowFrames). keep_order f ≡ true) (λ flow pace group askers. one_none flow.sender)
+      (λ flow v pace packets askers. two_none flow.sender v) (λ pgn u gaps place. one_none u) (λ flow pace group askers. refl) (λ request period. one_none request.sender)
 
   pub in_order : AreAllOrdered (frames_asked (asked_of timing plan stays))
   in_order j = go (get_or (frames_asked (asked_of timing plan stays)) j None) refl

@@ -22,6 +22,7 @@ use Rattle.j39_load.specs.Ranks.{AreHeldApart, AreTwinFlows, IsShortFlow}
 use Rattle.j39_load.specs.SentFrames.{Broadcasts, Held, IsBroadcastFrame, IsFirstFrame, IsRequestFrame, IsSessionFrame, IsSingleFrame, Part, part_identifier}
 use Rattle.j39_load.specs.SentFrames.{RequestToSend, Packet, ClearToSend, EndAcknowledged}
 use Rattle.j39_load.specs.Twins.{are_twins, is_same}
+use Rattle.j39_load.specs.AnswerStreams.{askers_of, frames_for}
 use Rattle.j39_load.proofs.Different as other_idents
 use Rattle.j39_load.proofs.KnownFrames.{asking_ident, first_ident, one_to, single_ident}
 use Rattle.j39_load.proofs.PlacedFrames.{own}
@@ -341,7 +342,8 @@ module _ (plan : Plan) (timing : Timing) (clean : Clean plan) (s : Schedule) (he
     one_sender = other_idents.senders plan clean (held.named t) (held.address t) apart f g flow other group second one.sends two.sends idents
 
     alike : (stays : UnitPlan → Bool) (pace its_pace : Pace) → AreTwinFlows group flow second other
-        → AreAlike (single_frames timing plan.units.items stays flow pace group) (single_frames timing plan.units.items stays other its_pace second)
+        → AreAlike (frames_for timing pace (askers_of plan.requests.items flow) (single_frames timing plan.units.items stays flow pace group))
+        (frames_for timing its_pace (askers_of plan.requests.items other) (single_frames timing plan.units.items stays other its_pace second))
     alike stays pace its_pace twins = record {
       number = twins.number;
       first = twins.first_is;

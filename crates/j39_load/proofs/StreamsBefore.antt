@@ -1,5 +1,5 @@
 -- The streams that may go before frames take no more than what is reported of their places.
-use Rattle.std.proofs.Common.{◌≡◌, ℕ, zero, suc, ◌+◌, ◌<◌, ◌≤◌, Bool, true, false, not, cond, ◌&&◌, eqb, if◌then◌else◌, List, [], ◌∷◌, ◌++◌, length, take}
+use Rattle.std.proofs.Common.{◌≡◌, ℕ, zero, suc, ◌+◌, ◌<◌, ◌≤◌, Bool, true, false, cond, eqb, if◌then◌else◌, List, [], ◌∷◌, ◌++◌, length, take}
 use Rattle.std.proofs.Common.{get_or, map, sum_by, unwrap_or, Option, Some, None}
 use Rattle.std.proofs.Common.{refl, sym, ap, ◌∙◌, subst, arith, append_assoc}
 use Rattle.std.proofs.lemmas.List.{get_or_append_left, take_all}
@@ -14,7 +14,8 @@ use Rattle.j39_load.specs.declared.loads.request_load.RequestLoad.{RequestLoad}
 use Rattle.j39_load.specs.declared.loads.unit_load.UnitLoad.{UnitLoad}
 use Rattle.j39_load.specs.Asked.{all_frames, own_frames}
 use Rattle.j39_load.specs.Damage.{damage_frames, damage_streams, first_frames, first_of_all}
-use Rattle.j39_load.specs.Delays.{frames_before, going_before, streams_before}
+use Rattle.j39_load.specs.AnswerStreams.{are_asked_for}
+use Rattle.j39_load.specs.Delays.{frames_before, going_before, own_before, streams_before}
 use Rattle.j39_load.specs.LineLists.{lines_of_each}
 use Rattle.j39_load.specs.PlannedFrames.{no_frames, planned_at}
 use Rattle.j39_load.specs.Twins.{may_precede}
@@ -43,6 +44,10 @@ stated_nothing report place (first ∷ xs) none (suc k) x at =
 
 -- ---- the streams before
 
+-- frames at a place count: where they are the ones that wait, if others of them may be queued at once, and else if they may go before these
+abbrev pub counts_before : ℕ → FlowFrames → ℕ → FlowFrames → Bool
+counts_before i own j frames = cond (eqb j i) (are_asked_for frames) (may_precede own frames)
+
 -- what each place takes is within what is reported of it, and so is all of it
 module _ (demands : List Demand) (report : ℕ → Option FlowFrames → List Stream) (span : ℕ) (taken : ℕ → ℕ) (all : List (Option FlowFrames))
     (each : (k : ℕ) → k < length all → taken k ≤ sum_by (lesser_share demands span) (report k (get_or all k None))) where
@@ -66,23 +71,24 @@ module _ (demands : List Demand) (report : ℕ → Option FlowFrames → List St
 module _ (demands : List Demand) (all : List (Option FlowFrames)) (i : ℕ) (own : FlowFrames) (span : ℕ) where
   -- what the stream at a place takes
   abbrev pub taken : ℕ → ℕ
-  taken j = cond (not (eqb j i) && may_precede own (planned_at all j)) (lesser_share demands span (planned_at all j).stream) 0
+  taken j = cond (counts_before i own j (planned_at all j)) (lesser_share demands span (planned_at all j).stream) 0
 
   taken_most : (j : ℕ) (frames : Option FlowFrames) → get_or all j None ≡ frames → taken j ≤ sum_by (lesser_share demands span) (going_before i own j frames)
-  taken_most j None is = rw (is) (elim (not (eqb j i) && may_precede own no_frames) as (λ e. cond e (lesser_share demands span no_frames.stream) 0 ≤ sum_by (lesser_share demands span) []) [
+  taken_most j None is = rw (is) (elim (counts_before i own j no_frames) as (λ e. cond e (lesser_share demands span no_frames.stream) 0 ≤ sum_by (lesser_share demands span) []) [
     | true ↦ omega arith
     | false ↦ omega arith
   ])
   taken_most j (Some frames) is = rw (is) (elim (eqb j i)
-      as (λ e. cond (not e && may_precede own frames) (lesser_share demands span frames.stream) 0
-      ≤ sum_by (lesser_share demands span) (if e then [] else frames_before own frames)) [
-        | true ↦ omega arith
-        | false ↦ elim (may_precede own frames)
-            as (λ e. cond e (lesser_share demands span frames.stream) 0 ≤ sum_by (lesser_share demands span) (cond e (frames.stream ∷ []) [])) [
-              | true ↦ rw (sum_by-cons (lesser_share demands span) frames.stream []) (omega arith)
-              | false ↦ omega arith
-            ]
+      as (λ e. cond (cond e (are_asked_for frames) (may_precede own frames)) (lesser_share demands span frames.stream) 0
+      ≤ sum_by (lesser_share demands span) (if e then own_before frames else frames_before own frames)) [
+        | true ↦ where_counted (are_asked_for frames) frames
+        | false ↦ where_counted (may_precede own frames) frames
       ])
+    where
+      where_counted : (e : Bool) (f : FlowFrames)
+          → cond e (lesser_share demands span f.stream) 0 ≤ sum_by (lesser_share demands span) (if e then f.stream ∷ [] else [])
+      where_counted true f = rw (sum_by-cons (lesser_share demands span) f.stream []) (omega arith)
+      where_counted false f = omega arith
 
   whole_taken : total (length all) taken ≤ sum_by (lesser_share demands span) (lines_of_each (going_before i own) 0 all)
   whole_taken = taken_within demands (going_before i own) span taken all (λ k below. taken_most k (get_or all k None) refl)
@@ -104,17 +110,19 @@ module _ (demands : List Demand) (i : ℕ) (own : FlowFrames) (span : ℕ) where
   damage_most place [] = omega arith
   damage_most place (stream ∷ streams) =
       let first : sum_by (lesser_share demands span) (going_before i own place (first_of_all stream)) ≤ lesser_share demands span stream =
-      go (eqb place i) (may_precede own (first_frames stream)) in
+      go (eqb place i) (may_precede own (first_frames stream)) (are_asked_for (first_frames stream)) in
       let rest = damage_most (place + 1) streams in
       let parts = sum_by-append (lesser_share demands span) (going_before i own place (first_of_all stream))
       (lines_of_each (going_before i own) (place + 1) (map first_of_all streams)) in
       let one = sum_by-cons (lesser_share demands span) stream streams in
       omega (arith, first, rest, parts, one)
     where
-      go : (same goes : Bool) → sum_by (lesser_share demands span) (if same then [] else (if goes then stream ∷ [] else [])) ≤ lesser_share demands span stream
-      go true goes = omega arith
-      go false true = rw (sum_by-cons (lesser_share demands span) stream []) (omega arith)
-      go false false = omega arith
+      go : (same goes asked : Bool)
+          → sum_by (lesser_share demands span) (if same then (if asked then stream ∷ [] else []) else (if goes then stream ∷ [] else [])) ≤ lesser_share demands span stream
+      go true goes true = rw (sum_by-cons (lesser_share demands span) stream []) (omega arith)
+      go true goes false = omega arith
+      go false true asked = rw (sum_by-cons (lesser_share demands span) stream []) (omega arith)
+      go false false asked = omega arith
 
   -- with what comes of damage
   pub all_before : (timing : Timing) (all : List (Option FlowFrames))

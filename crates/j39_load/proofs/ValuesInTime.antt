@@ -23,7 +23,9 @@ use Rattle.j39_load.specs.declared.frames.messages.Messages.TheVariants.{Short}
 use Rattle.j39_load.specs.Asked.{asked_of}
 use Rattle.j39_load.specs.KeepsPlan.{IsSingleFlow, origins_of}
 use Rattle.j39_load.specs.LoadFindings.{AreLoadFindings, AsksOfBus}
-use Rattle.j39_load.specs.Loads.{bits_at_least, is_always_short, load_of_flow, long_messages, single_frames, time_limit, us_of_bits, us_of_unit_ms}
+use Rattle.j39_load.specs.Loads.{bits_at_least, is_always_short, long_messages, single_frames, time_limit, us_of_bits, us_of_unit_ms}
+use Rattle.j39_load.specs.AnswerStreams.{askers_of, messages_for}
+use Rattle.j39_load.specs.FlowLoads.{load_of_flow}
 use Rattle.j39_load.specs.ReadInTime.{AreReadYoung, CarryWritten, IsNeedRead}
 use Rattle.j39_load.specs.Clocks.{IsTrueTime, bit_time, longest_million, million}
 use Rattle.j39_load.specs.SentFrames.{FrameSources}
@@ -74,7 +76,8 @@ module _ (plan : Plan) (timing : Timing) (stays : UnitPlan → Bool) (flow : Flo
       by_length (is_always_short group) flow.to refl (ap (λ (l : FlowLoad). l.messages) (same_Some _ load (rw (paced, at) at is)) ∙ short)
     where
       by_length : (b : Bool) (to : To) → is_always_short group ≡ b
-          → (if b then Short (single_frames timing plan.units.items stays flow pace group) else long_messages timing plan.units.items stays flow pace group to)
+          → messages_for timing pace (askers_of plan.requests.items flow)
+          (if b then Short (single_frames timing plan.units.items stays flow pace group) else long_messages timing plan.units.items stays flow pace group to)
           ≡ Short frames → group.most ≤ 8
       by_length true to fits same = leb-true group.most 8 fits
       by_length false ToAllUnits fits same = absurd (let stated = same in cc)

@@ -22,7 +22,10 @@ use Rattle.j39_load.specs.Asked.{announcements_of_unit, asked_of, frames_asked, 
 use Rattle.j39_load.specs.Broadcasts.{broadcast_by, broadcast_from, broadcasts_by, unit_loads_of}
 use Rattle.j39_load.specs.Damage.{damage_frames}
 use Rattle.j39_load.specs.Demands.{wanted_by, wants_of}
-use Rattle.j39_load.specs.Loads.{has_short, is_always_short, load_of_flow, loads_of, long_messages, single_frames}
+use Rattle.j39_load.specs.Loads.{has_short, is_always_short, long_messages, single_frames}
+use Rattle.j39_load.specs.AnswerStreams.{askers_of, frames_for, messages_for}
+use Rattle.std.specs.Option.{option_map}
+use Rattle.j39_load.specs.FlowLoads.{load_of_flow, loads_of}
 use Rattle.j39_load.specs.RequestLoads.{request_loads_of}
 use Rattle.j39_load.proofs.DemandLaws.{wants_with_damage}
 use Rattle.j39_load.proofs.EachFrames.{of_requests, of_units}
@@ -51,18 +54,19 @@ module _ (u : ℕ) where
     abbrev AsWanted : Option FlowLoad → Type 0
     AsWanted load = (wanted_by u (frames_of_flow load) ≡ broadcast_by u load) × (wanted_by u (singles_of_flow load) ≡ None)
 
-    module _ (flow : FlowPlan) (pace : Pace) (group : GroupPlan) where
-      long : (to : To) → wanted_by u (own_frames (long_messages timing units stays flow pace group to))
-          ≡ broadcast_from u (long_messages timing units stays flow pace group to)
+    module _ (flow : FlowPlan) (pace : Pace) (group : GroupPlan) (askers : ℕ) where
+      long : (to : To) → wanted_by u (own_frames (messages_for timing pace askers (long_messages timing units stays flow pace group to)))
+          ≡ broadcast_from u (messages_for timing pace askers (long_messages timing units stays flow pace group to))
       long ToAllUnits = refl
       long (One v) = refl
 
       by_lengths : (short has : Bool)
-          → (wanted_by u (own_frames (if short then Short (single_frames timing units stays flow pace group)
-          else long_messages timing units stays flow pace group flow.to))
-          ≡ broadcast_from u (if short then Short (single_frames timing units stays flow pace group)
-          else long_messages timing units stays flow pace group flow.to))
-          × (wanted_by u (if not short && has then Some (single_frames timing units stays flow pace group) else None) ≡ None)
+          → (wanted_by u (own_frames (messages_for timing pace askers (if short then Short (single_frames timing units stays flow pace group)
+          else long_messages timing units stays flow pace group flow.to)))
+          ≡ broadcast_from u (messages_for timing pace askers (if short then Short (single_frames timing units stays flow pace group)
+          else long_messages timing units stays flow pace group flow.to)))
+          × (wanted_by u (option_map (frames_for timing pace askers)
+          (if not short && has then Some (single_frames timing units stays flow pace group) else None)) ≡ None)
       by_lengths true has = (refl, refl)
       by_lengths false true = (long flow.to, refl)
       by_lengths false false = (long flow.to, refl)
@@ -71,7 +75,7 @@ module _ (u : ℕ) where
         → AsWanted (load_of_flow timing plan stays flow)
     of_flow flow None group paced at = rw (paced) (refl, refl)
     of_flow flow (Some pace) None paced at = rw (paced, at) (refl, refl)
-    of_flow flow (Some pace) (Some group) paced at = rw (paced, at) (by_lengths flow pace group (is_always_short group) (has_short group))
+    of_flow flow (Some pace) (Some group) paced at = rw (paced, at) (by_lengths flow pace group (askers_of plan.requests.items flow) (is_always_short group) (has_short group))
 
     one : (flow : FlowPlan) → AsWanted (load_of_flow timing plan stays flow)
     one flow = of_flow flow flow.pace (slice_get plan.groups.items flow.group) refl refl

@@ -37,6 +37,7 @@ use Rattle.j39_load.specs.Loads.{bits_at_most}
 use Rattle.j39_load.specs.LineLists.{lines_of_each}
 use Rattle.j39_load.specs.PlannedFrames.{AreAllOrdered, AreDeadlinesKept, AreMessagesOf, ArePlannedFramesInTime, AreTimesBounds, AreWholeInAnyOrder}
 use Rattle.j39_load.specs.PlannedFrames.{AreWholeOnEveryBus, AreWholeWithin, ComeInAnyOrder, ComeInTurn, IsOneTurn}
+use Rattle.j39_timing.specs.Waits.{IsSpaced, askers_want}
 use Rattle.j39_load.proofs.BoundedFlows.{all_in_order, delay_at, known_in_order, legal_in_order, never_whole, nothing_found, sent_in_any_order, short_bounded}
 use Rattle.j39_load.proofs.BoundedFlows.{stated_of}
 use Rattle.j39_load.proofs.PositivePeriods.{all_paced}
@@ -82,20 +83,22 @@ module _ (announcement gap packet : ℕ) where
 by_broadcasts : (timing : Timing) (units : List UnitPlan) (stays : UnitPlan → Bool) (u : ℕ) (broadcasts : List Broadcast) (load : UnitLoad)
     → known_unit_load timing units stays u broadcasts ≡ Some load
     → (load.flows ≡ length broadcasts) × (load.all_packets ≡ sum_by (λ (b : Broadcast). b.packets) broadcasts)
-    × (load.announcements.twin_ident ≡ None) × (load.packets.twin_ident ≡ None)
+    × ((load.announcements.twin_ident ≡ None) × IsSpaced load.announcements.stream)
+    × ((load.packets.twin_ident ≡ None) × IsSpaced load.packets.stream)
 by_broadcasts timing units stays u [] load is = absurd (none-some load is)
 by_broadcasts timing units stays u (b ∷ bs) load is =
     let same = same_Some _ load is in (
       sym (ap (λ (l : UnitLoad). l.flows) same),
       sym (ap (λ (l : UnitLoad). l.all_packets) same),
-      sym (ap (λ (l : UnitLoad). l.announcements.twin_ident) same),
-      sym (ap (λ (l : UnitLoad). l.packets.twin_ident) same),
+      (sym (ap (λ (l : UnitLoad). l.announcements.twin_ident) same), sym (ap (λ (l : UnitLoad). askers_want l.announcements.stream) same)),
+      (sym (ap (λ (l : UnitLoad). l.packets.twin_ident) same), sym (ap (λ (l : UnitLoad). askers_want l.packets.stream) same)),
     )
 
 of_unit_load : (timing : Timing) (units : List UnitPlan) (stays : UnitPlan → Bool) (flows : List (Option FlowLoad)) (u : ℕ) (load : UnitLoad)
     → get_or (unit_loads_of timing units stays flows) u None ≡ Some load
     → (load.flows ≡ length (broadcasts_by u flows)) × (load.all_packets ≡ sum_by (λ (b : Broadcast). b.packets) (broadcasts_by u flows))
-    × (load.announcements.twin_ident ≡ None) × (load.packets.twin_ident ≡ None)
+    × ((load.announcements.twin_ident ≡ None) × IsSpaced load.announcements.stream)
+    × ((load.packets.twin_ident ≡ None) × IsSpaced load.packets.stream)
 of_unit_load timing units stays [] u load is = absurd (none-some load is)
 of_unit_load timing units stays (flow ∷ flows) u load is =
     let report : ℕ → Option UnitLoad = λ v. known_unit_load timing units stays v (broadcasts_by v (flow ∷ flows)) in

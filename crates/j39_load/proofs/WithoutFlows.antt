@@ -16,7 +16,8 @@ use Rattle.j39_load.specs.Asked.{Asked, asked_by, total_load}
 use Rattle.j39_load.specs.Broadcasts.{unit_loads_of}
 use Rattle.j39_load.specs.Damage.{load_of_damage}
 use Rattle.j39_load.specs.LoadFindings.{flows_asked_too_often, further_findings, load_findings, overload}
-use Rattle.j39_load.specs.Loads.{bits_of_second, load_of_flow}
+use Rattle.j39_load.specs.FlowLoads.{load_of_flow}
+use Rattle.j39_load.specs.Loads.{bits_of_second}
 use Rattle.j39_load.specs.LineLists.{lines_of_each}
 use Rattle.j39_load.specs.RequestLoads.{load_of_request}
 

@@ -14,7 +14,7 @@ use Rattle.j39_load.specs.declared.loads.request_load.RequestLoad.{RequestLoad}
 use Rattle.j39_load.specs.declared.loads.unit_load.UnitLoad.{UnitLoad}
 use Rattle.j39_load.specs.Broadcasts.{unit_loads_of}
 use Rattle.j39_load.specs.Damage.{load_of_damage}
-use Rattle.j39_load.specs.Loads.{loads_of}
+use Rattle.j39_load.specs.FlowLoads.{loads_of}
 use Rattle.j39_load.specs.RequestLoads.{request_loads_of}
 
 pub record Asked : Type 0 where

@@ -1,6 +1,6 @@
 -- How long the messages of each flow take, from their releases: the waits of frames (Davis, Burns, Bril, Lukkien,
 -- Real-Time Systems 35, 2007), and when a long message to all is whole.
-use Rattle.std.specs.Prelude.{◌≡◌, ℕ, ◌+◌, ◌*◌, ◌^◌, ◌<◌, ◌≤◌, ◌==◌, nat_le, Bool, false, ◌&&◌, if◌then◌else◌, List, [], ◌∷◌, ◌++◌, length, slice_index_or, Option, Some, None}
+use Rattle.std.specs.Prelude.{◌≡◌, ℕ, ◌+◌, ◌-◌, ◌*◌, ◌^◌, ◌<◌, ◌≤◌, ◌==◌, nat_le, Bool, false, ◌&&◌, if◌then◌else◌, List, [], ◌∷◌, ◌++◌, length, slice_index_or, Option, Some, None}
 use Rattle.std.specs.Bool.{MatchBool}
 use Rattle.std.specs.List.{slice_get}
 use Rattle.std.specs.Option.{option_map, option_map_or}
@@ -16,6 +16,7 @@ use Rattle.j39_load.specs.declared.loads.unit_load.UnitLoad.{UnitLoad}
 use Rattle.j39_load.specs.declared.waits.turn.Turn.{Turn}
 use Rattle.j39_load.specs.declared.waits.whole_time.WholeTime.{WholeTime}
 use Rattle.j39_load.specs.AnyQueues.{IsBuffering, Buffering, keep_order, may_be_passed}
+use Rattle.j39_load.specs.AnswerStreams.{are_asked_for}
 use Rattle.j39_load.specs.Asked.{Asked, frames_asked}
 use Rattle.j39_load.specs.Damage.{damage_streams}
 use Rattle.j39_load.specs.Demands.{demands_of}
@@ -39,10 +40,18 @@ blocking timing ident = longest_frame 8 * (1 + (if nat_le (unplanned_idents timi
 abbrev pub frames_before : FlowFrames → FlowFrames → List Stream
 frames_before own frames = if may_precede own frames then frames.stream ∷ [] else []
 
--- that of the frames at this place, where they are others than those at a place
+-- their own stream, where others of them may be queued at once
+abbrev pub own_before : FlowFrames → List Stream
+own_before frames = if are_asked_for frames then frames.stream ∷ [] else []
+
+-- that of the frames at this place, by whether they are those at a place
 abbrev pub going_before : ℕ → FlowFrames → ℕ → Option FlowFrames → List Stream
 going_before i own place None = []
-going_before i own place (Some frames) = if place == i then [] else frames_before own frames
+going_before i own place (Some frames) = if place == i then own_before frames else frames_before own frames
+
+-- what is blocking these: but for the frame itself, where it is counted with its stream
+abbrev pub blocking_of : Timing → FlowFrames → ℕ
+blocking_of timing frames = blocking timing frames.greatest_ident - (if are_asked_for frames then frames.stream.bits else 0)
 
 -- those of all frames, and of what comes of damage
 abbrev pub streams_before : Timing → ℕ → FlowFrames → List (Option FlowFrames) → List Stream
@@ -50,11 +59,11 @@ streams_before timing i own all = damage_streams timing ++ lines_of_each (going_
 
 -- what a wait of so many bits of a frame of these, at their place among all, has to have room for
 abbrev pub need_of : Timing → List (Option FlowFrames) → ℕ → FlowFrames → ℕ → ℕ
-need_of timing all i frames wait = need (demands_of all) (blocking timing frames.greatest_ident) (streams_before timing i frames all) wait
+need_of timing all i frames wait = need (demands_of all) (blocking_of timing frames) (streams_before timing i frames all) wait
 
 -- and that no shorter wait has
 abbrev pub IsLeastWait : Timing → List (Option FlowFrames) → ℕ → FlowFrames → ℕ → Type 0
-IsLeastWait timing all i frames wait = NoShorterFits (demands_of all) (blocking timing frames.greatest_ident) (streams_before timing i frames all) wait
+IsLeastWait timing all i frames wait = NoShorterFits (demands_of all) (blocking_of timing frames) (streams_before timing i frames all) wait
 
 -- the wait has room, and its delay is within the limit
 pub record IsInTime (timing : Timing) (all : List (Option FlowFrames)) (i : ℕ) (frames : FlowFrames) (limit wait : ℕ) : Type 0 where
@@ -163,10 +172,16 @@ IsTurn timing asked buffering u turn = IsTurnBy timing asked buffering u (slice_
 abbrev pub own_time : Broadcast → Turn → ℕ
 own_time broadcast turn = turn.announcement + broadcast.packets * turn.packet
 
--- messages are wanted no more often than they can be sent: a turn is over within the period, and what waits is announced before the next one is wanted
+-- messages are wanted no more often than they can be sent: a turn is over within the period, and what waits is announced before the next one is
+-- wanted; or, where one request asks for them, a turn is over before the next one can be wanted. Where several do, two may be wanted at once
+abbrev pub keeps_pace : Broadcast → Turn → Bool
+keeps_pace broadcast turn =
+    nat_le turn.time broadcast.apart && nat_le (broadcast.jitter + turn.time) (broadcast.apart + own_time broadcast turn)
+
 abbrev pub keeps_up : Broadcast → Turn → Bool
 keeps_up broadcast turn =
-    nat_le turn.time broadcast.apart && nat_le (broadcast.jitter + turn.time) (broadcast.apart + own_time broadcast turn)
+    if broadcast.askers == 0 then keeps_pace broadcast turn
+    else (broadcast.askers == 1 && nat_le (turn.time + broadcast.late) broadcast.apart)
 
 -- where the unit's turn is this, the time of a flow's broadcasts, from the release at which one is wanted: each other flow
 -- of the unit goes before it once at most

@@ -44,8 +44,8 @@ abbrev pub want_of : BroadcastPart → Broadcast → Want
 want_of part broadcast = record {
   frames = frames_of_part part broadcast;
   period = broadcast.apart;
-  jitter = broadcast.jitter;
-  more = 1;
+  jitter = broadcast.late;
+  more = max 1 broadcast.askers;
 }
 
 -- of the one that is under way the packets may come, and no announcement

@@ -40,7 +40,8 @@ ComeFromOneFlow b u m n = (m < n) × (n < b.count u) × (b.flow u m ≡ b.flow u
 
 pub record KeepsBroadcasts (plan : Plan) (timing : Timing) (s : Schedule) (planned : ℕ → Bool) (sent : FrameSources) : Type 0 where
   pub messages : (u m : ℕ) → m < sent.broadcasts.count u → IsMessageToAll plan timing sent.broadcasts u m
-  -- the releases of two messages of a flow are a period apart, and one of them waits at most: where the next one is wanted it has been announced
+  -- the releases of two messages of a flow are a period apart, unless it comes only as an answer, and one of them waits at most: where the next one is
+  -- wanted it has been announced
   pub apart : (u m n ms : ℕ) → ComeFromOneFlow sent.broadcasts u m n → HasPeriodMs plan (sent.broadcasts.flow u m) ms
       → IsMsBehind timing ms (sent.broadcasts.release u m) (sent.broadcasts.release u n)
   pub one_waits : (u m n : ℕ) → ComeFromOneFlow sent.broadcasts u m n → sent.broadcasts.announced u m ≤ sent.broadcasts.wanted u n

@@ -10,6 +10,7 @@ use Rattle.j39_network.specs.declared.plan.pace.Pace.{Pace}
 use Rattle.j39_network.specs.declared.plan.queue.Queue.TheVariants.{Any, Priority}
 use Rattle.j39_network.specs.declared.plan.timing.Timing.{Timing}
 use Rattle.j39_network.specs.declared.plan.unit_plan.UnitPlan.{UnitPlan}
+use Rattle.j39_load.specs.KeepsAnswers.{KeepsAnswers}
 use Rattle.j39_load.specs.KeepsBroadcasts.{KeepsBroadcasts}
 use Rattle.j39_load.specs.Ranks.{AreHeldApart, AreHeldByPlan}
 use Rattle.j39_load.specs.SentFrames.{FrameSources, HasTime, Held, IsFrameOf, IsMsBefore, IsMsBehind, IsSentByUnit, IsSentEvery, IsWithinMs, Part, Source}
@@ -27,10 +28,11 @@ use Rattle.j39_tp.specs.Chunks.{packets_of}
 pub record KeepsToPlan (plan : Plan) (timing : Timing) (s : Schedule) (planned : ℕ → Bool) (sent : FrameSources) (held : Held) : Type 0 where
   pub frames : (p : ℕ) → p < s.count → planned p ≡ true → IsFrameOf plan timing s held sent.broadcasts (sent.source p) (sent.release p) p
   -- the releases of two messages of a flow, of those that go in one frame and of the long ones, and of two requests, are a period apart, and a long
-  -- message has each of its parts once
+  -- message has each of its parts once: but for flows that come only as answers
   pub apart : (p q ms : ℕ) → p < s.count → q < s.count → p ≢ q → planned p ≡ true → planned q ≡ true
       → sent.source p ≡ sent.source q → IsSentEvery plan (sent.source p) ms
       → IsMsBehind timing ms (sent.release p) (sent.release q) ⊎ IsMsBehind timing ms (sent.release q) (sent.release p)
+  pub answers : KeepsAnswers plan timing s planned sent
   pub broadcasts : KeepsBroadcasts plan timing s planned sent
   -- each unit holds its planned address, or one of the pool if it has to move, and no two that are named hold one
   pub held_by_plan : (t : ℕ) → AreHeldByPlan plan (held.address t)

@@ -1,14 +1,13 @@
 -- What each flow of a plan asks of the bus: how many frames, how long, how often, and how urgent.
-use Rattle.std.specs.Prelude.{ℕ, ◌+◌, ◌*◌, ◌/◌, min, max, nat_le, Bool, true, false, not, ◌&&◌, if◌then◌else◌, List, map, Option, Some, None, unwrap_or}
+use Rattle.std.specs.Prelude.{ℕ, ◌+◌, ◌*◌, ◌/◌, min, max, nat_le, Bool, true, false, not, ◌&&◌, if◌then◌else◌, List, Option, Some, None, unwrap_or}
 use Rattle.std.specs.Int.{div_ceil}
 use Rattle.std.specs.List.{slice_get}
-use Rattle.std.specs.Option.{option_and_then, option_map, option_map_or}
+use Rattle.std.specs.Option.{option_map, option_map_or}
 use Rattle.j39_id.specs.Addresses.{global_address, pool_first, pool_last}
 use Rattle.j39_id.specs.Ident.{identifier_of}
 use Rattle.j39_id.specs.Limits.{frame_bytes}
 use Rattle.j39_id.specs.Name.{is_arbitrary}
 use Rattle.j39_id.specs.Services.{connection_management, data_transfer}
-use Rattle.j39_network.specs.declared.plan.Plan.{Plan}
 use Rattle.j39_network.specs.declared.plan.flow_plan.FlowPlan.{FlowPlan}
 use Rattle.j39_network.specs.declared.plan.group_plan.GroupPlan.{GroupPlan}
 use Rattle.j39_network.specs.declared.plan.pace.Pace.{Pace}
@@ -227,6 +226,8 @@ broadcast_of timing flow pace group = record {
   period = pace.period;
   apart = bits_at_least timing pace.period;
   jitter = bits_at_most timing pace.jitter;
+  late = bits_at_most timing pace.jitter;
+  askers = 0;
   deadline = option_map (bits_inside timing) pace.deadline;
 }
 
@@ -258,12 +259,3 @@ flow_load timing units stays flow pace group = record {
   limit = time_limit timing pace;
   bits_per_second = load_of_messages timing (messages_of timing units stays flow pace group) pace.period;
 }
-
--- what a flow asks of the bus, where it is known how often it is sent
-abbrev pub load_of_flow : Timing → Plan → (UnitPlan → Bool) → FlowPlan → Option FlowLoad
-load_of_flow timing plan stays flow =
-    option_and_then (λ pace. option_map (flow_load timing plan.units.items stays flow pace) (slice_get plan.groups.items flow.group)) flow.pace
-
--- what each flow asks of the bus, in order
-abbrev pub loads_of : Timing → Plan → (UnitPlan → Bool) → List (Option FlowLoad)
-loads_of timing plan stays = map (load_of_flow timing plan stays) plan.flows.items

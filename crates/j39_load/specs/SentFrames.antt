@@ -1,7 +1,7 @@
 -- A frame of what a plan has, in the plan's own words: of a flow's message that goes in one frame, also where others of the flow are long, of a long
 -- message to one unit or to all, or a request.
 -- No stream stands here, and nothing that is reported of what a flow asks of the bus.
-use Rattle.std.specs.Prelude.{◌≡◌, ℕ, ◌+◌, ◌*◌, ◌<◌, ◌≤◌, ◌⊎◌, Bool, true, Some}
+use Rattle.std.specs.Prelude.{◌≡◌, ℕ, ◌+◌, ◌*◌, ◌<◌, ◌≤◌, ◌⊎◌, Bool, true, false, Some}
 use Rattle.std.specs.List.{slice_get}
 use Rattle.j39_id.specs.Ident.{identifier_of}
 use Rattle.j39_id.specs.Services.{connection_management, data_transfer, request}
@@ -14,6 +14,7 @@ use Rattle.j39_network.specs.declared.plan.timing.Timing.{Timing}
 use Rattle.j39_network.specs.declared.plan.to.To.{To}
 use Rattle.j39_network.specs.declared.plan.to.To.TheVariants.{All, One}
 use Rattle.j39_network.specs.declared.plan.unit_plan.UnitPlan.{UnitPlan}
+use Rattle.j39_load.specs.AskedFlows.{is_answering}
 use Rattle.j39_load.specs.Clocks.{bit_time, longest_million, million, shortest_million}
 use Rattle.j39_timing.specs.TimedFrames.{Schedule}
 use Rattle.j39_timing.specs.Traffic.{IsQueuedAt}
@@ -240,13 +241,14 @@ IsToAllBy u (Asking r) = ⊥
 IsToAllBy u (Announcing v m) = v ≡ u
 IsToAllBy u (Carrying v m k) = v ≡ u
 
--- the flow has this period, in milliseconds
+-- the flow has this period, in milliseconds, and doesn't come only as an answer to requests that have one
 pub record HasPeriodMs (plan : Plan) (f ms : ℕ) : Type 0 where
   pub flow : FlowPlan
   pub its : slice_get plan.flows.items f ≡ Some flow
   pub pace : Pace
   pub paced : flow.pace ≡ Some pace
   pub is : pace.period ≡ ms
+  pub unasked : is_answering plan.requests.items flow ≡ false
 
 -- and so has the source; what a unit sends to all comes by its own gaps
 abbrev pub IsSentEvery : Plan → Source → ℕ → Type 0

@@ -11,7 +11,7 @@ use Rattle.j39_load.specs.Asked.{own_frames}
 use Rattle.j39_timing.specs.Waits.{IsStream}
 
 abbrev pub IsSoundBroadcast : Broadcast → Type 0
-IsSoundBroadcast broadcast = (1 ≤ broadcast.period) × (2 ≤ broadcast.least_packets) × (broadcast.jitter < 2 ^ 31) × (1 ≤ broadcast.apart)
+IsSoundBroadcast broadcast = (1 ≤ broadcast.period) × (2 ≤ broadcast.least_packets) × (broadcast.jitter < 2 ^ 31) × (1 ≤ broadcast.apart) × (broadcast.late < 2 ^ 31) × (broadcast.askers ≤ 2 ^ 16)
 
 abbrev pub AreSound : FlowFrames → Type 0
 AreSound frames = IsStream frames.stream × (frames.stream.jitter < 2 ^ 30) × (frames.stream.bits ≤ 160) × IfSome frames.want IsSoundBroadcast

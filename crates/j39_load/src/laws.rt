@@ -1,5 +1,8 @@
 //! Laws of the frames of a plan's flows.
-ghost use Rattle.std.specs.Prelude.{◌≡◌, ◌≢◌, ◌↔◌, ℕ, ◌+◌, ◌*◌, ◌<◌, ◌≤◌, List, [], length, Bool, Option, Some};
+ghost use Rattle.std.specs.Prelude.{◌≡◌, ◌≢◌, ◌↔◌, ℕ, ◌+◌, ◌*◌, ◌<◌, ◌≤◌, List, [], length, Bool, false, Option, Some};
+ghost use Rattle.j39_load.specs.AskedFlows.{is_asked_too_often, is_more_than_one, whole_parts};
+ghost use Rattle.j39_load.specs.AskingTimes.{bit_parts, ms_parts, requesters_each};
+ghost use Rattle.j39_timing.specs.AnsweredRequests.{AskNoOftenerThan};
 ghost use Rattle.std.specs.List.{slice_get};
 ghost use Rattle.j39_id.specs.Pgn.{IsPgn};
 ghost use Rattle.j39_findings.specs.Findings.{Clean};
@@ -31,6 +34,7 @@ ghost use Rattle.j39_load.specs.KeptWithout.{CanBeKeptWithout};
 ghost use Rattle.j39_load.specs.Delays.{announcements_place, packets_place};
 ghost use Rattle.j39_load.specs.LoadFindings.{AreLoadFindings, AsksOfBus, load_findings};
 ghost use Rattle.j39_load.specs.LongRuns.{IsLongRunLoad};
+ghost use Rattle.j39_load.specs.Clocks.{shortest_million};
 ghost use Rattle.j39_load.specs.Loads.{bits_at_least, bits_at_most, bits_inside, bits_of_ms, frames_to_all};
 ghost use Rattle.j39_load.specs.Loads.{frames_to_one, group_ident, us_of_bits};
 ghost use Rattle.j39_load.specs.LosslessTransfers.{IsReceiverOf, TakeFramesReported, TakesFrames};
@@ -195,19 +199,20 @@ pub fn broadcasts_that_keep_a_plan()
 {}
 
 /// And a bus can keep to a plan in its own words: where no two units have one planned address, each flow whose messages
-/// go in one frame and that has a period can be sent alone, as often as one likes (`short`); and so can messages of one
-/// frame of a flow that has long ones too (`long`).
+/// go in one frame and that has a period can be sent alone, as often as one likes (`short`), also where it comes only as
+/// an answer and no more is asked of it than its period lets; and so can messages of one frame of a flow that has long
+/// ones too (`long`).
 pub fn plans_can_be_kept()
     ensures short { (plan : Plans) (timing : Timings) → ArePlannedApart (units_of plan)
         → (f : ℕ) (flow : PlannedFlows) (pace : PlannedPaces) (group : PlannedGroups)
         → slice_get plan.flows.items f ≡ Some flow → flow.pace ≡ Some pace
         → slice_get plan.groups.items flow.group ≡ Some group → group.most ≤ 8
-        → (n : ℕ) → CanBeKept plan timing (Single f) n }
+        → is_asked_too_often plan.requests.items flow ≡ false → (n : ℕ) → CanBeKept plan timing (Single f) n }
     ensures long { (plan : Plans) (timing : Timings) → ArePlannedApart (units_of plan)
         → (f : ℕ) (flow : PlannedFlows) (pace : PlannedPaces) (group : PlannedGroups)
         → slice_get plan.flows.items f ≡ Some flow → flow.pace ≡ Some pace
         → slice_get plan.groups.items flow.group ≡ Some group → group.length ≤ 8 → 8 < group.most
-        → (n : ℕ) → CanBeKept plan timing (First f) n }
+        → is_asked_too_often plan.requests.items flow ≡ false → (n : ℕ) → CanBeKept plan timing (First f) n }
 {}
 
 /// And all of it at once: such a flow can be sent as late as its jitter allows, as often as one likes, where the first
@@ -218,6 +223,7 @@ pub fn plans_can_be_kept_together()
         → (f : ℕ) (flow : PlannedFlows) (pace : PlannedPaces) (group : PlannedGroups)
         → slice_get plan.flows.items f ≡ Some flow → flow.pace ≡ Some pace
         → slice_get plan.groups.items flow.group ≡ Some group → group.most ≤ 8
+        → is_asked_too_often plan.requests.items flow ≡ false
         → IsPgn group.pgn → (rate : ErrorRates) → timing.errors ≡ Some rate
         → (n : ℕ) (half_sent : Bool) → CanBeKeptTogether plan timing rate f pace n half_sent }
 {}
@@ -242,6 +248,9 @@ pub fn plans_can_be_kept_whole()
         → to_all.pace ≡ Some third_pace → slice_get plan.groups.items to_all.group ≡ Some third → 8 < third.most
         → to_all.to ≡ ToAllUnits
         → (more : ℕ) → 2 ≤ more → third.length ≤ 7 * more → 7 * more < third.most + 7
+        → is_asked_too_often plan.requests.items flow ≡ false
+        → is_asked_too_often plan.requests.items other ≡ false
+        → is_asked_too_often plan.requests.items to_all ≡ false
         → (6 + (packets + more)) * (160 + bits_of_ms timing timing.broadcast_gap) * bit_time timing.bitrate ≤ 1000 * its.period
         → CanSendAll plan timing f g r to_all.sender packets more }
 {}
@@ -259,6 +268,8 @@ pub fn plans_can_be_kept_without_a_unit()
         → slice_get plan.flows.items g ≡ Some other → other.pace ≡ Some its
         → slice_get plan.groups.items other.group ≡ Some second → second.most ≤ 8
         → IsPgn second.pgn → other.sender ≢ u
+        → is_asked_too_often plan.requests.items flow ≡ false
+        → is_asked_too_often plan.requests.items other ≡ false
         → (first : ℕ → Bool) (n : ℕ) → CanBeKeptWithout plan timing u f g first n }
 {}
 
@@ -270,6 +281,7 @@ pub fn long_messages_can_be_sent_whole()
         → slice_get plan.flows.items f ≡ Some flow → flow.pace ≡ Some pace
         → slice_get plan.groups.items flow.group ≡ Some group → 8 < group.most → flow.to ≡ ToAllUnits
         → (packets : ℕ) → 2 ≤ packets → group.length ≤ 7 * packets → 7 * packets < group.most + 7
+        → is_asked_too_often plan.requests.items flow ≡ false
         → CanBeSentWhole plan timing f flow.sender packets }
 {}
 
@@ -375,4 +387,14 @@ pub fn long_messages_take_the_frames_reported()
 /// boxes are, where no two units of the plan may be one.
 pub fn serial_numbers_change_no_load()
     ensures { (plan vehicle : Plans) → IsVehicleOf plan vehicle → AreDistinctUnits plan → AreLoadsAlike plan vehicle }
+{}
+
+/// Requests of which it isn't found that they ask for too much come no oftener together than once in the flow's period,
+/// by whichever clocks (`together`); and a period in bits is no longer than this (`period`).
+pub fn requests_ask_no_oftener()
+    ensures together { (timing : Timings) (period : ℕ) (periods : List ℕ) → 0 < whole_parts periods
+        → 0 < shortest_million timing
+        → is_more_than_one period periods ≡ false
+        → AskNoOftenerThan (requesters_each timing periods) (ms_parts timing period) }
+    ensures period { (timing : Timings) (ms : ℕ) → bits_at_least timing ms * bit_parts timing ≤ ms_parts timing ms }
 {}

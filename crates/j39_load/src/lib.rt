@@ -22,9 +22,9 @@ pub use laws::{
     long_messages_can_be_sent_whole, long_messages_take_the_frames_reported,
     needed_values_are_read_in_time, needs_stay_fresh, plans_can_be_kept,
     plans_can_be_kept_together, plans_can_be_kept_whole, plans_can_be_kept_without_a_unit,
-    plans_in_order, serial_numbers_change_no_load, short_flows_have_different_identifiers,
-    written_bytes_are_reported,
+    plans_in_order, requests_ask_no_oftener, serial_numbers_change_no_load,
+    short_flows_have_different_identifiers, written_bytes_are_reported,
 };
 pub use live_claims::timing_of;
-pub use loads::{FlowLoad, Loads, RequestLoad, UnitLoad};
+pub use loads::{FlowLoad, Loads, RequestLoad, UnitLoad, answered_within, askers_of};
 pub use waits::{Delay, WholeTime};

@@ -9,6 +9,7 @@ ghost use Rattle.j39_id.specs.Limits.{unit_limit};
 ghost use Rattle.std.proofs.Props.{props};
 ghost use Rattle.std.specs.Option.{option_map_or};
 
+mod answers;
 mod broadcasts;
 mod flow_load;
 mod flow_loads;
@@ -18,6 +19,7 @@ mod requests;
 mod unit_load;
 
 use crate::frames::{PlannedBus, load_of_damage};
+pub use answers::{answered_within, askers_of};
 use broadcasts::unit_loads_of;
 pub use flow_load::FlowLoad;
 use flow_loads::loads_of;

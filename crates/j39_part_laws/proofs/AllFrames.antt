@@ -19,7 +19,7 @@ use Rattle.std.proofs.lemmas.List.{length-map}
 use Rattle.j39_load.specs.declared.frames.broadcast.Broadcast.{Broadcast}
 use Rattle.j39_load.specs.Asked.{announcements_of_unit, asked_of, frames_asked, frames_of_flow, frames_of_request, packets_of_unit, singles_of_flow}
 use Rattle.j39_load.specs.Broadcasts.{broadcast_by, broadcasts_by, unit_load, each_unit_load, known_unit_load, unit_loads_of}
-use Rattle.j39_load.specs.Loads.{load_of_flow, loads_of}
+use Rattle.j39_load.specs.FlowLoads.{load_of_flow, loads_of}
 use Rattle.j39_load.specs.RequestLoads.{load_of_request, request_loads_of}
 use Rattle.j39_load.proofs.PositivePeriods.{broadcasts_paced, every_flow, HasPackets}
 use Rattle.j39_part_laws.specs.PartLoads.{HasGoodNumbers}

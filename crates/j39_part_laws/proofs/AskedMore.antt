@@ -81,6 +81,11 @@ module _ (at : Places) (part whole : Plan) (is : IsPartAt at part whole) where
       go true answers period =
           (every, rw (serves_there r s f g asked sent answers) (asked.period ∙ period), refl)
 
+  -- how often the whole asks for the flow there
+  pub periods_there : (f g : FlowPlan) → IsFlowThere at f g → IsSub IsSame (asking_periods part.requests.items f) (asking_periods whole.requests.items g)
+  periods_there f g sent = sub_filter (IsRequestThere at) IsSame (asked_every f) (asked_every g) (asked_there f g sent) part.requests.items whole.requests.items
+      (sub_of_some at.request (IsRequestThere at) part.requests.items whole.requests.items is.requests)
+
   -- what the whole asks of the flow there
   pub too_often_there : (f g : FlowPlan) → IsFlowThere at f g → is_asked_too_often part.requests.items f ≡ true
       → is_asked_too_often whole.requests.items g ≡ true
@@ -89,7 +94,6 @@ module _ (at : Places) (part whole : Plan) (is : IsPartAt at part whole) where
       let periods : List ℕ = asking_periods part.requests.items f in
       let more : is_more_than_one asked.pace.period periods ≡ true =
       sym (answering_more part.requests.items f asked.pace asked.answers asked.paced) ∙ too_often in
-      let sub = sub_filter (IsRequestThere at) IsSame (asked_every f) (asked_every g) (asked_there f g sent) part.requests.items whole.requests.items
-      (sub_of_some at.request (IsRequestThere at) part.requests.items whole.requests.items is.requests) in
+      let sub = periods_there f g sent in
       answering_more whole.requests.items g asked.pace (sent.on_request ∙ asked.answers) (sent.pace ∙ asked.paced)
       ∙ more_of_sub asked.pace.period periods (asking_periods whole.requests.items g) sub (some_whole f part.requests.items) (some_whole g whole.requests.items) more

@@ -1,5 +1,5 @@
 -- A plan asks the same of its bus, however many frames come that aren't planned.
-use Rattle.std.proofs.Common.{◌≡◌, ℕ, ◌≤◌, Bool, not, ◌&&◌, if◌then◌else◌, List, [], ◌∷◌, length, map, Option, Some, None, option_map, refl, ap, ◌∙◌}
+use Rattle.std.proofs.Common.{◌≡◌, ℕ, zero, suc, ◌≤◌, Bool, not, ◌&&◌, if◌then◌else◌, List, [], ◌∷◌, length, map, Option, Some, None, option_map, refl, ap, ◌∙◌}
 use Rattle.std.specs.List.{range_with_len, slice_get}
 use Rattle.std.specs.Option.{option_and_then}
 use Rattle.j39_network.specs.declared.plan.Plan.{Plan}
@@ -17,7 +17,10 @@ use Rattle.j39_load.specs.declared.frames.messages.Messages.TheVariants.{Short, 
 use Rattle.j39_load.specs.declared.loads.flow_load.FlowLoad.{FlowLoad}
 use Rattle.j39_load.specs.Asked.{asked_by, asked_of}
 use Rattle.j39_load.specs.Broadcasts.{broadcasts_by, known_unit_load, unit_loads_of}
-use Rattle.j39_load.specs.Loads.{flow_load, has_short, is_always_short, limit_by, load_of_flow, load_of_messages, loads_of, long_messages, single_frames, time_limit}
+use Rattle.j39_load.specs.Loads.{flow_load, has_short, is_always_short, limit_by, load_of_messages, long_messages, single_frames, time_limit}
+use Rattle.j39_load.specs.AnswerStreams.{askers_of, frames_for, load_for, messages_for}
+use Rattle.j39_load.specs.FlowLoads.{asked_load, load_of_flow, loads_of}
+use Rattle.j39_load.specs.declared.frames.flow_frames.FlowFrames.{FlowFrames}
 use Rattle.j39_load.specs.RequestLoads.{load_of_request, request_load, request_loads_of}
 use Rattle.j39_part_laws.specs.PartLoads.{counting}
 
@@ -37,6 +40,30 @@ module _ (timing : Timing) (unplanned : ℕ) (range : unplanned ≤ 1000) where
   same_bits (Short frames) period = refl
   same_bits (ToOne frames) period = refl
   same_bits (ToAll broadcast) period = refl
+
+  -- also of those for which so many ask
+  module _ (pace : Pace) where
+    same_frames : (k : ℕ) (frames : FlowFrames) → frames_for busy pace k frames ≡ frames_for timing pace k frames
+    same_frames zero frames = refl
+    same_frames (suc k) frames = refl
+
+    same_messages : (k : ℕ) (messages : Messages) → messages_for busy pace k messages ≡ messages_for timing pace k messages
+    same_messages k (Short frames) = ap Short (same_frames k frames)
+    same_messages k (ToOne frames) = ap ToOne (same_frames k frames)
+    same_messages zero (ToAll broadcast) = refl
+    same_messages (suc k) (ToAll broadcast) = refl
+
+    same_singles : (k : ℕ) (singles : Option FlowFrames) → option_map (frames_for busy pace k) singles ≡ option_map (frames_for timing pace k) singles
+    same_singles k None = refl
+    same_singles k (Some frames) = ap Some (same_frames k frames)
+
+    abbrev asked_by_these : Messages → Option FlowFrames → FlowLoad → FlowLoad
+    asked_by_these messages singles load =
+        record { messages = messages; singles = singles; limit = load.limit; bits_per_second = load.bits_per_second }
+
+    same_for : (k : ℕ) (load : FlowLoad) → load_for busy pace k load ≡ load_for timing pace k load
+    same_for k load = ap (λ m. asked_by_these m (option_map (frames_for busy pace k) load.singles) load) (same_messages k load.messages)
+        ∙ ap (λ s. asked_by_these (messages_for timing pace k load.messages) s load) (same_singles k load.singles)
 
   module _ (units : List UnitPlan) (stays : UnitPlan → Bool) where
     module _ (flow : FlowPlan) (pace : Pace) (group : GroupPlan) where
@@ -83,13 +110,16 @@ module _ (timing : Timing) (unplanned : ℕ) (range : unplanned ≤ 1000) where
     same_load_of flow = go flow.pace
       where
         by : (pace : Pace) (group : Option GroupPlan)
-            → option_map (flow_load busy plan.units.items stays flow pace) group ≡ option_map (flow_load timing plan.units.items stays flow pace) group
+            → option_map (asked_load busy plan.requests.items plan.units.items stays flow pace) group
+            ≡ option_map (asked_load timing plan.requests.items plan.units.items stays flow pace) group
         by pace None = refl
-        by pace (Some group) = ap Some (same_flow plan.units.items stays flow pace group)
+        by pace (Some group) = ap Some (
+            ap (load_for busy pace (askers_of plan.requests.items flow)) (same_flow plan.units.items stays flow pace group)
+            ∙ same_for pace (askers_of plan.requests.items flow) (flow_load timing plan.units.items stays flow pace group))
 
         go : (pace : Option Pace)
-            → option_and_then (λ p. option_map (flow_load busy plan.units.items stays flow p) (slice_get plan.groups.items flow.group)) pace
-            ≡ option_and_then (λ p. option_map (flow_load timing plan.units.items stays flow p) (slice_get plan.groups.items flow.group)) pace
+            → option_and_then (λ p. option_map (asked_load busy plan.requests.items plan.units.items stays flow p) (slice_get plan.groups.items flow.group)) pace
+            ≡ option_and_then (λ p. option_map (asked_load timing plan.requests.items plan.units.items stays flow p) (slice_get plan.groups.items flow.group)) pace
         go None = refl
         go (Some pace) = by pace (slice_get plan.groups.items flow.group)
 

@@ -13,7 +13,7 @@ use Rattle.j39_load.specs.declared.waits.delay.Delay.{Delay}
 use Rattle.j39_load.specs.declared.waits.delay.Delay.TheVariants.{Beyond, Late, Long, Whole, Within}
 use Rattle.j39_load.specs.AnyQueues.{AreBufferingDelays, buffered, buffered_for, Buffering, IsBufferedFor, IsBuffering, IsQueueGroupWait, keep_order, later_frames}
 use Rattle.j39_load.specs.AnyQueues.{least_unbounded, leasts_of, may_be_passed, unbounded_at}
-use Rattle.j39_load.specs.Delays.{any_delay, blocking, HasNoneWithin, IsDelayWithin, IsFrameDelay, IsInTime, IsShortDelay, IsWaitIn, IsWaitOf, judged, streams_before}
+use Rattle.j39_load.specs.Delays.{any_delay, blocking_of, HasNoneWithin, IsDelayWithin, IsFrameDelay, IsInTime, IsShortDelay, IsWaitIn, IsWaitOf, judged, streams_before}
 use Rattle.j39_load.specs.Demands.{demands_of}
 use Rattle.j39_load.specs.LineLists.{lines_of_each}
 use Rattle.j39_load.specs.Loads.{longest_wait}
@@ -26,7 +26,7 @@ use Rattle.j39_part_laws.specs.PlanParts.{AreSome}
 use Rattle.j39_part_laws.specs.Shares.{WaitNoLonger}
 use Rattle.j39_part_laws.specs.Sublists.{IsSub}
 use Rattle.j39_part_laws.proofs.Buffering.{Always, buffered_no_longer, IsNoLess, least_sub}
-use Rattle.j39_part_laws.proofs.Frames.{AreFrames, AreFramesWhere, same_order, waits_there}
+use Rattle.j39_part_laws.proofs.Frames.{AreAtOnePace, AreFrames, AreFramesWhere, same_order, waits_there}
 use Rattle.j39_part_laws.proofs.Sublists.{sub_lines}
 
 same_length : (waits : List (Option ℕ)) (all : List (Option FlowFrames)) → length (buffered waits all) ≡ length all
@@ -139,8 +139,9 @@ module _ (unit : ℕ → ℕ) (Twins : ℕ → ℕ → Type 0) (one_twin : (m n 
 
   module _ (own there : FlowFrames) (are_own : AreFrames unit Twins own there) (ordered : keep_order there ≡ true)
       (passed : option_map_or (λ (n : ℕ). nat_lt n there.greatest_ident) (least_unbounded ws others) false ≡ false) where
+    -- those count that may go before, and of which the wait is known since they keep order
     abbrev Goes : FlowFrames → Type 0
-    Goes y = may_precede there y ≡ true
+    Goes y = (may_precede there y ≡ true) ⊎ (keep_order y ≡ true)
 
     -- what keeps order is buffered for no time, so that its wait is known
     known_ordered : (k : ℕ) (y : FlowFrames) → slice_get others k ≡ Some (Some y) → keep_order y ≡ true → slice_index_or ws k None ≡ None → ⊥
@@ -168,12 +169,15 @@ module _ (unit : ℕ → ℕ) (Twins : ℕ → ℕ → Type 0) (one_twin : (m n 
     ]
 
     jitter_there : (j : ℕ) (x y : FlowFrames) → slice_get all j ≡ Some (Some x) → slice_get others (place j) ≡ Some (Some y)
-        → x.stream.jitter ≤ y.stream.jitter → may_precede there y ≡ true
+        → x.stream.jitter ≤ y.stream.jitter → Goes y
         → x.stream.jitter + buffered_for vs j ≤ y.stream.jitter + buffered_for ws (place j)
     jitter_there j x y at at_there less before = go (slice_index_or ws (place j) None) refl
       where
         go : (w : Option ℕ) → slice_index_or ws (place j) None ≡ w → x.stream.jitter + buffered_for vs j ≤ y.stream.jitter + buffered_for ws (place j)
-        go None none = absurd (never_before (place j) y at_there none before)
+        go None none = elim before [
+          | inl precedes_it ↦ absurd (never_before (place j) y at_there none precedes_it)
+          | inr keeps ↦ absurd (known_ordered (place j) y at_there keeps none)
+        ]
         go (Some b) known =
             let (a, is_a, below) = known_here j (Some x) at b known in
             rw (known, is_a) (omega (arith, less, below))
@@ -212,29 +216,55 @@ module _ (unit : ℕ → ℕ) (Twins : ℕ → ℕ → Type 0) (one_twin : (m n 
                   (later_there j x stands.value at stands.value_is stands.meets);
             }
 
-    -- that of a flow whose sender keeps order
-    module _ (i : ℕ) (same : own.stream ≡ there.stream) where
+    -- at a place where these stand
+    module _ (i : ℕ) (at_own : slice_get all i ≡ Some (Some own)) (at_there : slice_get others (place i) ≡ Some (Some there)) where
       abbrev Bound : Type 0
-      Bound = WaitNoLonger (demands_of (buffered vs all)) (demands_of (buffered ws others)) (blocking timing own.greatest_ident)
-          (blocking busy there.greatest_ident) (streams_before timing i own (buffered vs all)) (streams_before busy (place i) there (buffered ws others))
+      Bound = WaitNoLonger (demands_of (buffered vs all)) (demands_of (buffered ws others)) (blocking_of timing own)
+          (blocking_of busy there) (streams_before timing i own (buffered vs all)) (streams_before busy (place i) there (buffered ws others))
+
+      own_late : own.stream.jitter ≤ there.stream.jitter
+      own_late =
+          let stands = are.each i (Some own) at_own in
+          let same : stands.value ≡ Some there = same_Some stands.value (Some there) (sym stands.value_is ∙ at_there) in
+          (subst (Alike (Some own)) same stands.meets).1 tt
+
+      buffered_at : (waits : List (Option ℕ)) (xs : List (Option FlowFrames)) (j : ℕ) (x : FlowFrames) → slice_get xs j ≡ Some (Some x)
+          → slice_get (buffered waits xs) j ≡ Some (Some (later_frames (buffered_for waits j) x))
+      buffered_at waits xs j x its =
+          let below = slice_get_within xs j (Some x) its in
+          let size = same_length waits xs in
+          slice_get-get_or (buffered waits xs) j None (omega (arith, below, size))
+          ∙ ap Some (buffered_read waits xs j below ∙ ap (option_map (later_frames (buffered_for waits j))) (get_or_from_slice_get xs j (Some x) None its))
 
       bound : Bound
-      bound = waits_there unit Twins one_twin timing unplanned range busier own there are_own (buffered vs all) (buffered ws others) place buffered_some i
+      bound = waits_there unit Twins one_twin timing unplanned range busier own there are_own Goes (λ y before. inl before) (buffered vs all) (buffered ws others)
+          place buffered_some i (later_frames (buffered_for vs i) own) (later_frames (buffered_for ws (place i)) there) (buffered_at vs all i own at_own)
+          (buffered_at ws others (place i) there at_there) (later_alike (buffered_for vs i) (buffered_for ws (place i)) own there are_own) refl refl refl
+          (jitter_there i own there at_own at_there own_late (inr ordered))
+
+    -- that of a flow whose sender keeps order
+    module _ (i : ℕ) (at_own : slice_get all i ≡ Some (Some own)) (at_there : slice_get others (place i) ≡ Some (Some there))
+        (same : AreAtOnePace own.stream there.stream) where
+      abbrev its_bound : Bound i at_own at_there
+      its_bound = bound i at_own at_there
+
+      same_delay : (w : ℕ) → delay_of own.stream w ≡ delay_of there.stream w
+      same_delay w = let jitter = same.jitter in let bits = same.bits in omega (arith, jitter, bits)
 
       -- where some wait is in time there one is in time here
       some_here : (most high w : ℕ) → high ≤ most → IsInTime busy (buffered ws others) (place i) there high w
           → HasNoneWithin timing (buffered vs all) i own most → ⊥
       some_here most high w more room never =
-          let needs = bound.needs w in
+          let needs = its_bound.needs w in
           let fits = room.demand_fits in
-          let late = ap (λ (s : _). delay_of s w) same in
+          let late = same_delay w in
           let within = room.within in
           never w (record { demand_fits = omega (arith, needs, fits); within = omega (arith, late, within, more) })
 
       shorter : (most high a b : ℕ) → IsDelayWithin timing (buffered vs all) i own most a → IsDelayWithin busy (buffered ws others) (place i) there high b → a ≤ b
       shorter most high a b (v, fits, none, is_a) (w, room, least_w, is_b) =
-          let less = bound.least v w none room.demand_fits in
-          let late = ap (λ (s : _). delay_of s w) same in
+          let less = its_bound.least v w none room.demand_fits in
+          let late = same_delay w in
           omega (arith, is_a, is_b, less, late)
 
       short_no_later : (limit : ℕ) (d e : Delay) → IsShortDelay timing (buffered vs all) i own limit d → IsShortDelay busy (buffered ws others) (place i) there limit e
@@ -250,19 +280,18 @@ module _ (unit : ℕ → ℕ) (Twins : ℕ → ℕ → Type 0) (one_twin : (m n 
       short_no_later limit (Within a) (Beyond b) here reported = (a, inl refl, shorter limit there.stream.period a b here reported.1)
       short_no_later limit (Beyond a) (Beyond b) here reported = (a, inr refl, shorter own.stream.period there.stream.period a b here.1 reported.1)
       short_no_later limit Late (Beyond b) here (never, (w, room, least_w, is_b)) =
-          let period = ap (λ (s : _). s.period) same in
+          let period = same.period in
           absurd (some_here own.stream.period there.stream.period w (omega (arith, period)) room here.1)
 
   wait_no_later : (x y : FlowFrames) → AreFrames unit Twins x y → keep_order y ≡ true
-      → option_map_or (λ (n : ℕ). nat_lt n y.greatest_ident) (least_unbounded ws others) false ≡ false → (i : ℕ) (v : Option ℕ) (b : ℕ)
+      → option_map_or (λ (n : ℕ). nat_lt n y.greatest_ident) (least_unbounded ws others) false ≡ false → (i : ℕ)
+      → slice_get all i ≡ Some (Some x) → slice_get others (place i) ≡ Some (Some y) → (v : Option ℕ) (b : ℕ)
       → IsWaitOf timing (buffered vs all) i x v → IsWaitOf busy (buffered ws others) (place i) y (Some b) → (a : ℕ) × (v ≡ Some a) × (a ≤ b)
-  wait_no_later x y alike ordered passed i None b none (short, fits, least_w) =
-      let bound = waits_there unit Twins one_twin timing unplanned range busier x y alike (buffered vs all) (buffered ws others) place (buffered_some x y alike ordered passed) i in
-      let above = bound.least (longest_wait timing + 1) b none fits in
+  wait_no_later x y alike ordered passed i at_x at_y None b none (short, fits, least_w) =
+      let above = (bound x y alike ordered passed i at_x at_y).least (longest_wait timing + 1) b none fits in
       absurd (omega (arith, above, short))
-  wait_no_later x y alike ordered passed i (Some a) b is_a (short, fits, least_w) =
-      let bound = waits_there unit Twins one_twin timing unplanned range busier x y alike (buffered vs all) (buffered ws others) place (buffered_some x y alike ordered passed) i in
-      (a, refl, bound.least a b is_a.2 fits)
+  wait_no_later x y alike ordered passed i at_x at_y (Some a) b is_a (short, fits, least_w) =
+      (a, refl, (bound x y alike ordered passed i at_x at_y).least a b is_a.2 fits)
 
   -- ---- any flow whose messages go in one frame each
 
@@ -281,7 +310,7 @@ module _ (unit : ℕ → ℕ) (Twins : ℕ → ℕ → Type 0) (one_twin : (m n 
             ∙ subst (λ o. option_map_or (λ (k : ℕ). nat_lt k n) o false ≡ false) is_q none))
       ]
 
-  judged_no_later : (x y : FlowFrames) → x.stream ≡ y.stream → (limit p q : ℕ) → p ≤ q → IsNoLater (Some (judged x limit p)) (Some (judged y limit q))
+  judged_no_later : (x y : FlowFrames) → AreAtOnePace x.stream y.stream → (limit p q : ℕ) → p ≤ q → IsNoLater (Some (judged x limit p)) (Some (judged y limit q))
   judged_no_later x y same limit p q less = elim (cases_Bool (nat_le q limit)) [
     | inl within ↦
         let low = leb-true q limit within in
@@ -291,7 +320,7 @@ module _ (unit : ℕ → ℕ) (Twins : ℕ → ℕ → Type 0) (one_twin : (m n 
       | inr late ↦ rw (over, late) (judged x limit p, refl)
       | inl beyond ↦
           let low = leb-true q y.stream.period beyond in
-          let period = ap (λ (s : _). s.period) same in
+          let period = same.period in
           let fits : nat_le p x.stream.period ≡ true = le-leb p x.stream.period (omega (arith, low, less, period)) in
           rw (over, beyond, fits) (either (nat_le p limit))
     ]
@@ -301,18 +330,21 @@ module _ (unit : ℕ → ℕ) (Twins : ℕ → ℕ → Type 0) (one_twin : (m n 
       either true = (p, inl refl, less)
       either false = (p, inr refl, less)
 
-  any_no_later : (x y : FlowFrames) → x.stream ≡ y.stream → (limit : ℕ) (v w : Option ℕ) → ((b : ℕ) → w ≡ Some b → (a : ℕ) × (v ≡ Some a) × (a ≤ b))
+  any_no_later : (x y : FlowFrames) → AreAtOnePace x.stream y.stream → (limit : ℕ) (v w : Option ℕ) → ((b : ℕ) → w ≡ Some b → (a : ℕ) × (v ≡ Some a) × (a ≤ b))
       → IsNoLater (Some (any_delay x limit v)) (Some (any_delay y limit w))
   any_no_later x y same limit v None known = (any_delay x limit v, refl)
   any_no_later x y same limit v (Some w) known =
       let (a, is_a, below) = known w refl in
-      let late = ap (λ (s : _). delay_of s w) same in
+      let jitter = same.jitter in
+      let bits = same.bits in
+      let late : delay_of x.stream w ≡ delay_of y.stream w = omega (arith, jitter, bits) in
       rw (is_a) (judged_no_later x y same limit (delay_of x.stream a) (delay_of y.stream w) (omega (arith, below, late)))
 
   pub frame_no_later : (bp bw : Buffering) → IsBuffering timing all bp → IsBuffering busy others bw → bp.waits ≡ vs → bw.waits ≡ ws
-      → (i : ℕ) (x y : FlowFrames) → slice_get all i ≡ Some (Some x) → AreFrames unit Twins x y → x.stream ≡ y.stream → (limit : ℕ) (d e : Delay)
+      → (i : ℕ) (x y : FlowFrames) → slice_get all i ≡ Some (Some x) → slice_get others (place i) ≡ Some (Some y) → AreFrames unit Twins x y
+      → AreAtOnePace x.stream y.stream → (limit : ℕ) (d e : Delay)
       → IsFrameDelay timing bp i x limit d → IsFrameDelay busy bw (place i) y limit e → IsNoLater (Some d) (Some e)
-  frame_no_later bp bw is_p is_w waits_p waits_w i x y at alike same limit d e reported there = elim (cases_Bool (keep_order x)) [
+  frame_no_later bp bw is_p is_w waits_p waits_w i x y at at_y alike same limit d e reported there = elim (cases_Bool (keep_order x)) [
     | inr unordered ↦
         let there_un = same_order unit Twins one_twin x y alike ∙ unordered in
         let is_d : d ≡ any_delay x limit (slice_index_or vs i None) =
@@ -337,7 +369,7 @@ module _ (unit : ℕ → ℕ) (Twins : ℕ → ℕ → Type 0) (one_twin : (m n 
               subst (λ t. MatchBool t (d ≡ Late) (IsShortDelay timing bp.frames i x limit d)) unpassed_p
               (subst (λ t. MatchBool t (MatchBool (may_be_passed bp x.greatest_ident) (d ≡ Late) (IsShortDelay timing bp.frames i x limit d))
               (d ≡ any_delay x limit (slice_index_or bp.waits i None))) keeps reported) in
-              short_no_later x y alike there_keeps passed i same limit d e
+              short_no_later x y alike there_keeps passed i at at_y same limit d e
               (subst (λ fs. IsShortDelay timing fs i x limit d) (is_p.frames ∙ ap (λ zs. buffered zs all) waits_p) short_p)
               (subst (λ fs. IsShortDelay busy fs (place i) y limit e) (is_w.frames ∙ ap (λ zs. buffered zs others) waits_w) short)
         ]
@@ -363,9 +395,10 @@ module _ (unit : ℕ → ℕ) (Twins : ℕ → ℕ → Type 0) (one_twin : (m n 
   -- ---- any frames, as far as their waits are reported
 
   pub wait_in_no_later : (bp bw : Buffering) → IsBuffering timing all bp → IsBuffering busy others bw → bp.waits ≡ vs → bw.waits ≡ ws
-      → (i : ℕ) (x y : FlowFrames) → slice_get all i ≡ Some (Some x) → AreFrames unit Twins x y → (v : Option ℕ) (b : ℕ)
+      → (i : ℕ) (x y : FlowFrames) → slice_get all i ≡ Some (Some x) → slice_get others (place i) ≡ Some (Some y) → AreFrames unit Twins x y
+      → (v : Option ℕ) (b : ℕ)
       → IsWaitIn timing bp i x v → IsWaitIn busy bw (place i) y (Some b) → (a : ℕ) × (v ≡ Some a) × (a ≤ b)
-  wait_in_no_later bp bw is_p is_w waits_p waits_w i x y at alike v b reported there = elim (cases_Bool (keep_order x)) [
+  wait_in_no_later bp bw is_p is_w waits_p waits_w i x y at at_y alike v b reported there = elim (cases_Bool (keep_order x)) [
     | inr unordered ↦
         let there_un = same_order unit Twins one_twin x y alike ∙ unordered in
         let known = in_any busy bw (place i) y (Some b) there_un there in
@@ -385,7 +418,7 @@ module _ (unit : ℕ → ℕ) (Twins : ℕ → ℕ → Type 0) (one_twin : (m n 
         subst (λ t. MatchBool t (v ≡ None) (IsWaitOf timing bp.frames i x v)) unpassed_p
         (subst (λ t. MatchBool t (MatchBool (may_be_passed bp x.greatest_ident) (v ≡ None) (IsWaitOf timing bp.frames i x v))
         (v ≡ slice_index_or bp.waits i None)) keeps reported) in
-        wait_no_later x y alike there_keeps passed i v b
+        wait_no_later x y alike there_keeps passed i at at_y v b
         (subst (λ fs. IsWaitOf timing fs i x v) (is_p.frames ∙ ap (λ zs. buffered zs all) waits_p) wait_p)
         (subst (λ fs. IsWaitOf busy fs (place i) y (Some b)) (is_w.frames ∙ ap (λ zs. buffered zs others) waits_w) wait)
   ]

@@ -18,7 +18,7 @@ use Rattle.j39_load.specs.declared.waits.whole_time.WholeTime.{WholeTime}
 use Rattle.j39_load.specs.AnyQueues.{Buffering, IsWaitWith, keep_order, may_be_passed}
 use Rattle.j39_load.specs.Asked.{Asked, frames_asked}
 use Rattle.j39_load.specs.Delays.{AreFlowDelays, HasDelay, HasDelayBy, HasNoneWithin, IsDelayOf, IsDelayWithin, IsFrameDelay, IsInTime, IsShortDelay}
-use Rattle.j39_load.specs.Delays.{IsTurnBy, IsWaitIn, IsWaitOf, IsWholeTime, announcements_place, any_delay, blocking, known_turn, packets_place, streams_before}
+use Rattle.j39_load.specs.Delays.{IsTurnBy, IsWaitIn, IsWaitOf, IsWholeTime, announcements_place, any_delay, blocking_of, known_turn, packets_place, streams_before}
 use Rattle.j39_load.specs.Delays.{whole_time}
 use Rattle.j39_load.specs.Demands.{demands_of}
 use Rattle.j39_timing.specs.Traffic.{delay_of}
@@ -29,7 +29,7 @@ module _ (timing : Timing) (all : List (Option FlowFrames)) (i : ℕ) (frames : 
   -- ---- flows whose messages go in one frame
 
   abbrev fits : ℕ → Bool
-  fits = has_room (demands_of all) (blocking timing frames.greatest_ident) (streams_before timing i frames all)
+  fits = has_room (demands_of all) (blocking_of timing frames) (streams_before timing i frames all)
 
   fitting : (most w : ℕ) → IsInTime timing all i frames most w → fits w ≡ true
   fitting most w its = le-leb _ w its.demand_fits
@@ -45,10 +45,10 @@ module _ (timing : Timing) (all : List (Option FlowFrames)) (i : ℕ) (frames : 
       in_time n least inside = (
         n,
         record {
-          demand_fits = room (demands_of all) (blocking timing frames.greatest_ident) (streams_before timing i frames all) n least.holds;
+          demand_fits = room (demands_of all) (blocking_of timing frames) (streams_before timing i frames all) n least.holds;
           within = inside;
         },
-        none_shorter (demands_of all) (blocking timing frames.greatest_ident) (streams_before timing i frames all) n least.first,
+        none_shorter (demands_of all) (blocking_of timing frames) (streams_before timing i frames all) n least.first,
         refl,
       )
 
@@ -76,11 +76,11 @@ module _ (timing : Timing) (all : List (Option FlowFrames)) (i : ℕ) (frames : 
 
   some_wait_of : (wait : Option ℕ) × IsWaitOf timing all i frames wait
   some_wait_of =
-      let found = some_wait (demands_of all) (blocking timing frames.greatest_ident) (streams_before timing i frames all) timing in
+      let found = some_wait (demands_of all) (blocking_of timing frames) (streams_before timing i frames all) timing in
       (found.0, as_wait found.0 found.1)
     where
       as_wait : (wait : Option ℕ)
-          → IsWaitWith timing (demands_of all) (streams_before timing i frames all) (blocking timing frames.greatest_ident) wait
+          → IsWaitWith timing (demands_of all) (streams_before timing i frames all) (blocking_of timing frames) wait
           → IsWaitOf timing all i frames wait
       as_wait (Some wait) is = is
       as_wait None is = is

@@ -13,25 +13,27 @@ use Rattle.j39_load.specs.declared.loads.flow_load.FlowLoad.{FlowLoad}
 use Rattle.j39_load.specs.declared.waits.delay.Delay.{Delay}
 use Rattle.j39_load.specs.declared.waits.delay.Delay.TheVariants.{Beyond, Late, Long, Whole, Within}
 use Rattle.std.specs.Option.{option_map_or}
-use Rattle.std.proofs.lemmas.Bool.{and_from, and_parts, cases_Bool, false≢true}
-use Rattle.std.proofs.Common.{◌+◌, ◌-◌, ◌*◌, arith, true, false, inl, inr, nat_le, if◌then◌else◌}
+use Rattle.std.proofs.lemmas.Bool.{and_from, and_parts, cases_Bool, eqb-true, false≢true, ne_eqb}
+use Rattle.std.proofs.Common.{zero, suc, ◌+◌, ◌-◌, ◌*◌, ◌==◌, ◌&&◌, arith, true, false, inl, inr, nat_le, if◌then◌else◌, get_or}
 use Rattle.j39_load.specs.AnyQueues.{Buffering, IsBuffering}
 use Rattle.j39_load.specs.Asked.{announcements_of_unit, Asked, asked_of, frames_asked, frames_of_flow, frames_of_request, own_frames, packets_of_unit, singles_of_flow}
 use Rattle.j39_load.specs.Delays.{HasDelay, HasDelayBy, IsDelayOf, IsFrameDelay}
-use Rattle.j39_load.specs.Loads.{loads_of}
+use Rattle.j39_load.specs.FlowLoads.{load_of_flow, loads_of}
+use Rattle.j39_load.proofs.StreamsBefore.{get_or_inside}
+use Rattle.j39_load.proofs.WholeMessages.{announcements_read, packets_read}
 use Rattle.std.proofs.lemmas.Bool.{eq-eqb, le-leb, leb-true}
-use Rattle.std.proofs.lemmas.Option.{get_or_from_slice_get, none-some, slice_get_within}
+use Rattle.std.proofs.lemmas.Option.{get_or_from_slice_get, none-some, slice_get-get_or, slice_get_within}
 use Rattle.j39_load.specs.declared.frames.broadcast.Broadcast.{Broadcast}
 use Rattle.j39_load.specs.declared.loads.unit_load.UnitLoad.{UnitLoad}
 use Rattle.j39_load.specs.declared.waits.whole_time.WholeTime.{WholeTime}
 use Rattle.j39_load.specs.Broadcasts.{broadcast_from}
 use Rattle.j39_load.specs.declared.waits.turn.Turn.{Turn}
-use Rattle.j39_load.specs.Delays.{flow_turn, IsTurn, IsTurnBy, IsWaitIn, IsWholeTime, keeps_up, known_turn, longest_pause, own_time, packet_time}
-use Rattle.j39_load.specs.Loads.{frames_to_all, load_of_flow}
+use Rattle.j39_load.specs.Delays.{announcements_place, flow_turn, IsTurn, IsTurnBy, IsWaitIn, IsWholeTime, keeps_pace, keeps_up, known_turn, packets_place, longest_pause, own_time, packet_time}
+use Rattle.j39_load.specs.Loads.{frames_to_all}
 use Rattle.j39_part_laws.proofs.AllFrames.{announcements_at, announcements_place_there, packets_at, packets_place_there, unit_asks, units_some}
 use Rattle.j39_part_laws.proofs.Delays.{wait_in_no_later}
 use Rattle.j39_part_laws.proofs.FlowLoads.{flow_sender}
-use Rattle.j39_part_laws.proofs.Frames.{AreBroadcast}
+use Rattle.j39_part_laws.proofs.Frames.{AreAtOnePace, AreBroadcast}
 use Rattle.j39_part_laws.proofs.Shares.{mul-mono}
 use Rattle.j39_part_laws.proofs.UnitLoads.{UnitsAlike}
 use Rattle.j39_part_laws.specs.PartDelays.{DelaysNoLater, IsNoLater, IsWholeNoLater}
@@ -83,16 +85,56 @@ turn_within f g p q n a b k m some flows has packets first later =
 
 still_keeps_up : (unit : ℕ → ℕ) (b c : Broadcast) → AreBroadcast unit b c → (s t : Turn) → IsTurnWithin b.packets s t → keeps_up c t ≡ true → keeps_up b s ≡ true
 still_keeps_up unit b c alike s t within reported =
-    let (in_period, soon) = and_parts (nat_le t.time c.apart) (nat_le (c.jitter + t.time) (c.apart + own_time c t)) reported in
-    let low = leb-true t.time c.apart in_period in
-    let next = leb-true (c.jitter + t.time) (c.apart + own_time c t) soon in
-    let own : own_time c t ≡ t.announcement + b.packets * t.packet = ap (λ (n : ℕ). t.announcement + n * t.packet) alike.packets in
-    let time = within.time in
-    let others = within.others in
-    let apart = alike.apart in
-    let late = alike.jitter in
-    and_from (nat_le s.time b.apart) (nat_le (b.jitter + s.time) (b.apart + own_time b s)) (le-leb s.time b.apart (omega (arith, low, time, apart)))
-    (le-leb (b.jitter + s.time) (b.apart + own_time b s) (omega (arith, next, own, others, apart, late)))
+    by b.askers c.askers refl refl reported
+  where
+    -- where nobody asks for them here
+    paced : t.time ≤ c.apart → c.jitter + t.time ≤ c.apart + own_time c t → keeps_pace b s ≡ true
+    paced low next =
+        let own : own_time c t ≡ t.announcement + b.packets * t.packet = ap (λ (n : ℕ). t.announcement + n * t.packet) alike.packets in
+        let time = within.time in
+        let others = within.others in
+        let apart = alike.apart in
+        let late = alike.jitter in
+        and_from (nat_le s.time b.apart) (nat_le (b.jitter + s.time) (b.apart + own_time b s)) (le-leb s.time b.apart (omega (arith, low, time, apart)))
+        (le-leb (b.jitter + s.time) (b.apart + own_time b s) (omega (arith, next, own, others, apart, late)))
+
+    abbrev up_by : ℕ → Broadcast → Turn → Bool
+    up_by n d u = if n == 0 then keeps_pace d u else (n == 1 && nat_le (u.time + d.late) d.apart)
+
+    never : (n : ℕ) → (suc n == 0) ≡ false
+    never n = ne_eqb (suc n) 0 (λ same. omega (arith, same))
+
+    by : (m n : ℕ) → b.askers ≡ m → c.askers ≡ n → keeps_up c t ≡ true → keeps_up b s ≡ true
+    by zero zero none none_there up =
+        let pace : keeps_pace c t ≡ true = ap (λ (k : ℕ). up_by k c t) (sym none_there) ∙ up in
+        let (in_period, soon) = and_parts (nat_le t.time c.apart) (nat_le (c.jitter + t.time) (c.apart + own_time c t)) pace in
+        ap (λ (k : ℕ). up_by k b s) none
+        ∙ paced (leb-true t.time c.apart in_period) (leb-true (c.jitter + t.time) (c.apart + own_time c t) soon)
+    by zero (suc n) none some up =
+        let both : (suc n == 1 && nat_le (t.time + c.late) c.apart) ≡ true =
+        ap (λ (x : Bool). if x then keeps_pace c t else (suc n == 1 && nat_le (t.time + c.late) c.apart)) (sym (never n))
+        ∙ (ap (λ (k : ℕ). up_by k c t) (sym some) ∙ up) in
+        let fits = leb-true (t.time + c.late) c.apart (and_parts (suc n == 1) (nat_le (t.time + c.late) c.apart) both).1 in
+        let late = alike.jitter in
+        let soon = alike.jitter_late in
+        ap (λ (k : ℕ). up_by k b s) none ∙ paced (omega (arith, fits)) (omega (arith, fits, late, soon))
+    by (suc m) zero some none up = absurd (let askers = alike.askers in omega (arith, askers, some, none))
+    by (suc m) (suc n) some_here some up =
+        let both : (suc n == 1 && nat_le (t.time + c.late) c.apart) ≡ true =
+        ap (λ (x : Bool). if x then keeps_pace c t else (suc n == 1 && nat_le (t.time + c.late) c.apart)) (sym (never n))
+        ∙ (ap (λ (k : ℕ). up_by k c t) (sym some) ∙ up) in
+        let parts = and_parts (suc n == 1) (nat_le (t.time + c.late) c.apart) both in
+        let one = eqb-true (suc n) 1 parts.0 in
+        let fits = leb-true (t.time + c.late) c.apart parts.1 in
+        let askers = alike.askers in
+        let single : suc m ≡ 1 = omega (arith, askers, some_here, some, one) in
+        let time = within.time in
+        let apart = alike.apart in
+        let late = alike.late in
+        ap (λ (k : ℕ). up_by k b s) some_here
+        ∙ (ap (λ (x : Bool). if x then keeps_pace b s else (suc m == 1 && nat_le (s.time + b.late) b.apart)) (never m)
+        ∙ and_from (suc m == 1) (nat_le (s.time + b.late) b.apart) (eq-eqb (suc m) 1 single)
+        (le-leb (s.time + b.late) b.apart (omega (arith, fits, time, apart, late))))
 
 module _ (at : Places) (part whole : Plan) (is : IsPartAt at part whole) (good : HasGoodNumbers whole) (timing : Timing) (unplanned : ℕ) (range : unplanned ≤ 1000) (busier : timing.unplanned ≤ unplanned)
     (stays reported : UnitPlan → Bool)
@@ -125,6 +167,18 @@ module _ (at : Places) (part whole : Plan) (is : IsPartAt at part whole) (good :
       (map singles_of_flow ls ++ (map packets_of_unit asked.units ++ (map announcements_of_unit asked.units ++ map frames_of_request asked.requests))) f (Some x)
       (slice_get-map frames_of_flow ls f ∙ ap (option_map frames_of_flow) its ∙ ap (λ m. Some (own_frames m)) short)
 
+  -- also in the whole
+  own_there : (f : ℕ) (k : FlowLoad) (y : FlowFrames) → slice_get asked_there.flows f ≡ Some (Some k) → k.messages ≡ Short y
+      → slice_get (frames_asked asked_there) f ≡ Some (Some y)
+  own_there f k y its short = append_front (map frames_of_flow asked_there.flows)
+      (map singles_of_flow asked_there.flows
+      ++ (map packets_of_unit asked_there.units ++ (map announcements_of_unit asked_there.units ++ map frames_of_request asked_there.requests))) f (Some y)
+      (slice_get-map frames_of_flow asked_there.flows f ∙ ap (option_map frames_of_flow) its ∙ ap (λ m. Some (own_frames m)) short)
+
+  -- frames that are read at a place stand there
+  stands_at : (p : ℕ) (y : FlowFrames) → get_or (frames_asked asked_there) p None ≡ Some y → slice_get (frames_asked asked_there) p ≡ Some (Some y)
+  stands_at p y read = slice_get-get_or (frames_asked asked_there) p None (get_or_inside (frames_asked asked_there) p y read) ∙ ap Some read
+
   module _ (f : ℕ) (below : f < length part.flows.items) (bp bw : Buffering) (is_p : IsBuffering timing (frames_asked asked) bp)
       (is_w : IsBuffering busy (frames_asked asked_there) bw) where
     load_there : (o k : Option FlowLoad) → slice_get ls f ≡ Some o → slice_get asked_there.flows (at.flow f) ≡ Some k → LoadsAlike at o k
@@ -136,21 +190,29 @@ module _ (at : Places) (part whole : Plan) (is : IsPartAt at part whole) (good :
     -- ---- long messages to all
 
     turn_by : (u packets : ℕ) → u < length lus_here → (l : UnitLoad) → slice_get lus_here u ≡ Some (Some l) → 1 ≤ l.flows → packets ≤ l.all_packets
-        → (tp tw : Option Turn) → (y : Option UnitLoad) → UnitsAlike at (Some l) y → IsTurnBy timing asked bp u (Some l) tp → IsTurnBy busy asked_there bw (at.unit u) y tw
+        → (tp tw : Option Turn) → (y : Option UnitLoad) → get_or asked_there.units (at.unit u) None ≡ y → UnitsAlike at (Some l) y → IsTurnBy timing asked bp u (Some l) tp → IsTurnBy busy asked_there bw (at.unit u) y tw
         → IsKnownTurn packets tp tw
-    turn_by u packets few l at_l some has tp tw None alike here there t known = absurd alike
-    turn_by u packets few l at_l some has tp tw (Some k) alike (ap_here, sp, wa, ws, is_p_turn) (None, sw, wa_there, ws_there, is_w_turn) t known =
+    turn_by u packets few l at_l some has tp tw None at_y alike here there t known = absurd alike
+    turn_by u packets few l at_l some has tp tw (Some k) at_y alike (ap_here, sp, wa, ws, is_p_turn) (None, sw, wa_there, ws_there, is_w_turn) t known =
         absurd (none-some t (sym is_w_turn ∙ known))
-    turn_by u packets few l at_l some has tp tw (Some k) alike (ap_here, sp, wa, ws, is_p_turn) (Some aw, None, wa_there, ws_there, is_w_turn) t known =
+    turn_by u packets few l at_l some has tp tw (Some k) at_y alike (ap_here, sp, wa, ws, is_p_turn) (Some aw, None, wa_there, ws_there, is_w_turn) t known =
         absurd (none-some t (sym is_w_turn ∙ known))
-    turn_by u packets few l at_l some has tp tw (Some k) alike (ap_here, sp, wa, ws, is_p_turn) (Some aw, Some sw, wa_there, ws_there, is_w_turn) t known =
+    turn_by u packets few l at_l some has tp tw (Some k) at_y alike (ap_here, sp, wa, ws, is_p_turn) (Some aw, Some sw, wa_there, ws_there, is_w_turn) t known =
         let (a, is_a, a_less) = wait_in_no_later at.unit (AreTwinNumbers at) (one_twin at) timing unplanned range busier (frames_asked asked) (frames_asked asked_there) place all_some bp.waits bw.waits
         is_p.bounded is_w.bounded bp bw is_p is_w refl refl (2 * length ls + (length lus_here + u)) l.announcements k.announcements
-        (announcements_at at part whole is good stays reported decides reports_who timing u l at_l) alike.announcements.0 ap_here aw wa
+        (announcements_at at part whole is good stays reported decides reports_who timing u l at_l)
+        (subst (λ p. slice_get (frames_asked asked_there) p ≡ Some (Some k.announcements))
+        (sym (announcements_place_there at part whole is good stays reported decides reports_who timing u few))
+        (stands_at (announcements_place asked_there (at.unit u)) k.announcements (announcements_read asked_there (at.unit u) k at_y)))
+        alike.announcements.0 ap_here aw wa
         (subst (λ p. IsWaitIn busy bw p k.announcements (Some aw)) (sym (announcements_place_there at part whole is good stays reported decides reports_who timing u few)) wa_there) in
         let (s, is_s, s_less) = wait_in_no_later at.unit (AreTwinNumbers at) (one_twin at) timing unplanned range busier (frames_asked asked) (frames_asked asked_there) place all_some bp.waits bw.waits
         is_p.bounded is_w.bounded bp bw is_p is_w refl refl (2 * length ls + u) l.packets k.packets
-        (packets_at at part whole is good stays reported decides reports_who timing u l at_l) alike.packets.0 sp sw ws
+        (packets_at at part whole is good stays reported decides reports_who timing u l at_l)
+        (subst (λ p. slice_get (frames_asked asked_there) p ≡ Some (Some k.packets))
+        (sym (packets_place_there at part whole is good stays reported decides reports_who timing u few))
+        (stands_at (packets_place asked_there (at.unit u)) k.packets (packets_read asked_there (at.unit u) k at_y)))
+        alike.packets.0 sp sw ws
         (subst (λ p. IsWaitIn busy bw p k.packets (Some sw)) (sym (packets_place_there at part whole is good stays reported decides reports_who timing u few)) ws_there) in
         let bits = alike.packets.0.bits in
         let first_bits = alike.announcements.0.bits in
@@ -182,7 +244,8 @@ module _ (at : Places) (part whole : Plan) (is : IsPartAt at part whole) (good :
         (ap (broadcast_from b.sender) to_all ∙ ap (λ t. if t then Some b else None) (eq-eqb b.sender b.sender refl)) within in
         let its = (units_some at part whole is good stays reported decides reports_who timing).each b.sender (Some unit) at_u in
         let few = slice_get_within lus_here b.sender (Some unit) at_u in
-        let known = turn_by b.sender b.packets few unit at_u by_b.flows by_b.packets tp tw its.value its.meets
+        let known = turn_by b.sender b.packets few unit at_u by_b.flows by_b.packets tp tw its.value
+        (get_or_from_slice_get asked_there.units (at.unit b.sender) its.value None its.value_is) its.meets
         (subst (λ o. IsTurnBy timing asked bp b.sender o tp) (get_or_from_slice_get lus_here b.sender (Some unit) None at_u) turn_p)
         (subst (λ o. IsTurnBy busy asked_there bw (at.unit b.sender) o tw) (get_or_from_slice_get asked_there.units (at.unit b.sender) its.value None its.value_is)
         (subst (λ s. IsTurn busy asked_there bw s tw) alike.sender turn_w)) in
@@ -209,7 +272,7 @@ module _ (at : Places) (part whole : Plan) (is : IsPartAt at part whole) (good :
             let (m, is_m, within_t) = known t refl in
             ap (λ o. option_map_or (keeps_up b) o false) is_m ∙ still_keeps_up at.unit b c alike m t within_t reported_each
 
-    by_to_one : (x y : FlowFrames) → x.stream ≡ y.stream → (limit high : ℕ) (d e : Delay) → IsDelayOf timing asked bp f (ToOne x) limit d
+    by_to_one : (x y : FlowFrames) → AreAtOnePace x.stream y.stream → (limit high : ℕ) (d e : Delay) → IsDelayOf timing asked bp f (ToOne x) limit d
         → IsDelayOf busy asked_there bw (at.flow f) (ToOne y) high e → IsNoLater (Some d) (Some e)
     by_to_one x y same limit high (Within m) e here there = absurd here
     by_to_one x y same limit high (Beyond m) e here there = absurd here
@@ -219,7 +282,7 @@ module _ (at : Places) (part whole : Plan) (is : IsPartAt at part whole) (good :
     by_to_one x y same limit high (Long m) (Beyond n) here there = absurd there
     by_to_one x y same limit high (Long m) Late here there = absurd there
     by_to_one x y same limit high (Long m) (Whole n) here there = absurd there
-    by_to_one x y same limit high (Long m) (Long n) here there = ap (λ k. Some (Long k)) (here ∙ ap (λ (s : _). s.frames) same ∙ sym there)
+    by_to_one x y same limit high (Long m) (Long n) here there = ap (λ k. Some (Long k)) (here ∙ same.frames ∙ sym there)
 
     by_to_all : (l : FlowLoad) → slice_get ls f ≡ Some (Some l) → (b c : Broadcast) → l.messages ≡ ToAll b → AreBroadcast at.unit b c → (limit high : ℕ) (d e : Delay)
         → IsDelayOf timing asked bp f (ToAll b) limit d → IsDelayOf busy asked_there bw (at.flow f) (ToAll c) high e → IsNoLater (Some d) (Some e)
@@ -233,21 +296,25 @@ module _ (at : Places) (part whole : Plan) (is : IsPartAt at part whole) (good :
     by_to_all l at_l b c to_all alike limit high (Whole v) (Long n) here there = absurd there
     by_to_all l at_l b c to_all alike limit high (Whole v) (Whole w) here there = (v, refl, whole_no_later l at_l b c to_all alike v w here there)
 
-    by_messages : (l k : FlowLoad) → slice_get ls f ≡ Some (Some l) → l.limit ≡ k.limit → (a c : Messages) → l.messages ≡ a → MessagesAlike at a c → (d e : Delay)
+    by_messages : (l k : FlowLoad) → slice_get ls f ≡ Some (Some l) → slice_get asked_there.flows (at.flow f) ≡ Some (Some k) → l.limit ≡ k.limit → (a c : Messages)
+        → l.messages ≡ a → k.messages ≡ c → MessagesAlike at a c → (d e : Delay)
         → IsDelayOf timing asked bp f a l.limit d → IsDelayOf busy asked_there bw (at.flow f) c k.limit e → IsNoLater (Some d) (Some e)
-    by_messages l k its limit (Short x) (Short y) short alike d e here there =
+    by_messages l k its its_there limit (Short x) (Short y) short short_there alike d e here there =
         frame_no_later at.unit (AreTwinNumbers at) (one_twin at) timing unplanned range busier (frames_asked asked) (frames_asked asked_there) place all_some bp.waits bw.waits
-        is_p.bounded is_w.bounded bp bw is_p is_w refl refl f x y (own_at f l x its short) alike.0 alike.1 k.limit d e
+        is_p.bounded is_w.bounded bp bw is_p is_w refl refl f x y (own_at f l x its short)
+        (subst (λ n. slice_get (frames_asked asked_there) n ≡ Some (Some y))
+        (sym (flow_place at part whole is good timing stays reported decides reports_who f below)) (own_there (at.flow f) k y its_there short_there))
+        alike.0 alike.1 k.limit d e
         (subst (λ n. IsFrameDelay timing bp f x n d) limit here)
         (subst (λ n. IsFrameDelay busy bw n y k.limit e) (sym (flow_place at part whole is good timing stays reported decides reports_who f below)) there)
-    by_messages l k its limit (ToOne x) (ToOne y) to_one alike d e here there = by_to_one x y alike.1 l.limit k.limit d e here there
-    by_messages l k its limit (ToAll b) (ToAll c) to_all alike d e here there = by_to_all l its b c to_all alike l.limit k.limit d e here there
-    by_messages l k its limit (Short x) (ToOne y) short alike d e here there = absurd alike
-    by_messages l k its limit (Short x) (ToAll y) short alike d e here there = absurd alike
-    by_messages l k its limit (ToOne x) (Short y) short alike d e here there = absurd alike
-    by_messages l k its limit (ToOne x) (ToAll y) short alike d e here there = absurd alike
-    by_messages l k its limit (ToAll x) (Short y) short alike d e here there = absurd alike
-    by_messages l k its limit (ToAll x) (ToOne y) short alike d e here there = absurd alike
+    by_messages l k its its_there limit (ToOne x) (ToOne y) to_one one_there alike d e here there = by_to_one x y alike.1 l.limit k.limit d e here there
+    by_messages l k its its_there limit (ToAll b) (ToAll c) to_all all_there alike d e here there = by_to_all l its b c to_all alike l.limit k.limit d e here there
+    by_messages l k its its_there limit (Short x) (ToOne y) short short_there alike d e here there = absurd alike
+    by_messages l k its its_there limit (Short x) (ToAll y) short short_there alike d e here there = absurd alike
+    by_messages l k its its_there limit (ToOne x) (Short y) short short_there alike d e here there = absurd alike
+    by_messages l k its its_there limit (ToOne x) (ToAll y) short short_there alike d e here there = absurd alike
+    by_messages l k its its_there limit (ToAll x) (Short y) short short_there alike d e here there = absurd alike
+    by_messages l k its its_there limit (ToAll x) (ToOne y) short short_there alike d e here there = absurd alike
 
     no_later : (here there : Option Delay) → HasDelayBy timing asked bp f here → HasDelayBy busy asked_there bw (at.flow f) there → IsNoLater here there
     no_later None None none none_there = refl
@@ -255,7 +322,7 @@ module _ (at : Places) (part whole : Plan) (is : IsPartAt at part whole) (good :
     no_later None (Some e) none (k, at_k, there) = absurd (load_there None (Some k) none at_k)
     no_later (Some d) (Some e) (l, at_l, here) (k, at_k, there) =
         let alike = load_there (Some l) (Some k) at_l at_k in
-        by_messages l k at_l alike.limit l.messages k.messages refl alike.messages d e here there
+        by_messages l k at_l at_k alike.limit l.messages k.messages refl refl alike.messages d e here there
 
   pub delays_no_later : DelaysNoLater at part whole timing busy reported stays
   delays_no_later f below here there (bp, is_p, by_p) has_there =

@@ -17,7 +17,8 @@ use Rattle.j39_load.specs.BusTimes.{timing_of, with_claims}
 use Rattle.j39_load.specs.LineLists.{lines_of_each}
 use Rattle.j39_load.specs.LiveClaims.{claims_stated, unplanned_of}
 use Rattle.j39_load.specs.LoadFindings.{all_findings, AreLoadFindings, flows_asked_too_often, AsksOfBus, further_findings, is_whole_late, lateness, load_findings, overload, time_of_each, without_period}
-use Rattle.j39_load.specs.Loads.{bits_of_second, load_of_flow}
+use Rattle.j39_load.specs.Loads.{bits_of_second}
+use Rattle.j39_load.specs.FlowLoads.{load_of_flow}
 use Rattle.j39_load.specs.declared.findings.load_finding.LoadFinding.{LoadFinding}
 use Rattle.j39_load.specs.declared.findings.load_finding.LoadFinding.TheVariants.{NoPeriod, Overload, LateFlow, NeedTooOld, AskedTooOften}
 use Rattle.j39_load.specs.declared.waits.delay.Delay.{Delay}

@@ -13,7 +13,7 @@ use Rattle.j39_load.specs.declared.loads.flow_load.FlowLoad.{FlowLoad}
 use Rattle.j39_load.specs.declared.loads.request_load.RequestLoad.{RequestLoad}
 use Rattle.j39_load.specs.declared.loads.unit_load.UnitLoad.{UnitLoad}
 use Rattle.j39_load.specs.Asked.{asked_of, frames_asked, frames_of_flow, total_load}
-use Rattle.j39_load.specs.Loads.{load_of_flow}
+use Rattle.j39_load.specs.FlowLoads.{load_of_flow}
 use Rattle.j39_load.specs.Twins.{may_precede}
 use Rattle.j39_part_laws.specs.PartLoads.{AskNoMore, AskNoMoreThan, counting, HasGoodNumbers, WaitNoLongerThan}
 use Rattle.j39_part_laws.proofs.Busier.{same_asked}
@@ -42,16 +42,17 @@ some_counted at Counts place all others are = record {
 
 module _ (at : Places) (timing : Timing) (unplanned : ℕ) (range : unplanned ≤ 1000) (busier : timing.unplanned ≤ unplanned)
     (all others : List (Option FlowFrames)) (place : ℕ → ℕ) (are : AreSome place (FramesAlike at) all others) where
-  wait_no_longer : (i : ℕ) (own : FlowFrames) (there : Option FlowFrames) → slice_get others (place i) ≡ Some there → FramesAlike at (Some own) there
-      → WaitNoLongerThan timing (counting timing unplanned range) all others i (place i) own
-  wait_no_longer i own None stands alike = absurd alike
-  wait_no_longer i own (Some there) stands alike =
-      let waits = waits_there at.unit (AreTwinNumbers at) (one_twin at) timing unplanned range busier own there alike.0 all others place
-      (some_counted at (λ y. may_precede there y ≡ true) place all others are) i in
+  wait_no_longer : (i : ℕ) (own : FlowFrames) (there : Option FlowFrames) → slice_get all i ≡ Some (Some own) → slice_get others (place i) ≡ Some there
+      → FramesAlike at (Some own) there → WaitNoLongerThan timing (counting timing unplanned range) all others i (place i) own
+  wait_no_longer i own None its stands alike = absurd alike
+  wait_no_longer i own (Some there) its stands alike =
+      let waits = waits_there at.unit (AreTwinNumbers at) (one_twin at) timing unplanned range busier own there alike.0 (λ y. may_precede there y ≡ true)
+      (λ y goes. goes) all others place (some_counted at (λ y. may_precede there y ≡ true) place all others are) i own there its stands alike.0 refl refl refl
+      alike.1 in
       record { there = there; stands = stands; needs = waits.needs; least = waits.least }
 
   pub waits : (i : ℕ) (own : FlowFrames) → slice_get all i ≡ Some (Some own) → WaitNoLongerThan timing (counting timing unplanned range) all others i (place i) own
-  waits i own its = let there = are.each i (Some own) its in wait_no_longer i own there.value there.value_is there.meets
+  waits i own its = let there = are.each i (Some own) its in wait_no_longer i own there.value its there.value_is there.meets
 
 -- ---- loads
 

@@ -8,7 +8,7 @@ use Rattle.j39_vehicle.specs.declared.vehicle.forward.Forward.{Forward}
 use Rattle.j39_vehicle_times.specs.declared.bus_delays.Delays.{Delays}
 use Rattle.j39_vehicle_times.specs.FoundTimes.{is_late_asked}
 use Rattle.j39_vehicle_times.specs.TimeFindings.{first_output}
-use Rattle.j39_vehicle_times.specs.Times.{jitter_ms, queued, us_of_ms}
+use Rattle.j39_vehicle_times.specs.Times.{askers_on, latest_ms, queued, us_of_ms}
 use Rattle.j39_vehicle_text.specs.VehicleLabels.{gateway_label, group_text_at}
 
 -- which group of which bus goes on as which of which, by which gateway
@@ -16,9 +16,9 @@ unfoldable pub forward_text : Vehicle → ℕ → Forward → List ℕ
 forward_text v n forward = place_field (codes "forward ") n ++ (codes " " ++ (gateway_label v forward.gateway
     ++ (group_text_at (codes " ") v forward.input ++ group_text_at (codes " to ") v forward.output)))
 
--- by when its first output has to be queued, in microseconds behind the release
+-- by when its first output has to be queued, in microseconds behind the moment
 unfoldable pub output_jitter : Vehicle → Forward → ℕ
-output_jitter v forward = option_map_or (λ flow. us_of_ms (jitter_ms flow)) (first_output v forward) 0
+output_jitter v forward = option_map_or (λ flow. us_of_ms (latest_ms (askers_on v.buses.items forward.output.bus flow) flow)) (first_output v forward) 0
 
 -- when it is queued, of when it has to be; or that this isn't known
 unfoldable pub queued_text : Option ℕ → ℕ → List ℕ

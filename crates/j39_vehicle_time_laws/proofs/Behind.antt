@@ -18,7 +18,7 @@ use Rattle.j39_vehicle_time_laws.specs.Prompt.{IsSentDirectly, IsSentOn}
 use Rattle.j39_vehicle_time_laws.specs.Seen.{SeenBuses, clock_on, frames_at, longest_bit, of_us}
 use Rattle.j39_vehicle_time_laws.specs.YoungValues.{IsSeenVehicle}
 use Rattle.j39_vehicle_time_laws.proofs.Feeders.{IsFeederAt, feeder_is}
-use Rattle.j39_vehicle_time_laws.proofs.OneFlow.{IsOneFlow, one_flow, own_of_release, own_parts}
+use Rattle.j39_vehicle_time_laws.proofs.OneFlow.{IsOneFlow, none_ask, one_flow, own_of_release, own_parts}
 use Rattle.j39_vehicle_time_laws.proofs.Parts.{some_cases, sum_some}
 
 -- ---- the parts of what is known
@@ -239,7 +239,8 @@ module _ (v : Vehicle) (delays : Delays) (stated : AreDelays v delays) (seen : S
 
   flow_of : (at : FlowAt) → is.scope.flows at ≡ true → (time : ℕ) → own v delays at ≡ Some time → IsOneFlow v delays seen at time
   flow_of at among time known =
-      one_flow v delays stated at time (own_parts v delays at time known) is.scope (is.closed.its_bus at among) among seen is.kept known
+      let has = own_parts v delays at time known in
+      one_flow v delays stated at time has (none_ask v at has.flow has.its (is.closed.unasked at among)) is.scope (is.closed.its_bus at among) among seen is.kept known
 
   -- what is sent on directly to a flow of the scope is of the scope too
   pub source_among : (at : FlowAt) → is.scope.flows at ≡ true → (n : Forward) (source : FlowAt) (time : ℕ) → direct_feeder v at ≡ Some n

@@ -21,7 +21,7 @@ use Rattle.j39_vehicle.specs.declared.vehicle.forward.Forward.{Forward}
 use Rattle.j39_vehicle_findings.specs.declared.point.FlowAt.{FlowAt}
 use Rattle.j39_vehicle_times.specs.BusDelays.{AreDelays}
 use Rattle.j39_vehicle_times.specs.declared.bus_delays.Delays.{Delays}
-use Rattle.j39_vehicle_times.specs.Times.{behind_at, behind_by, behind_release, delay_at, direct_feeder, flow_at, first_input_at, jitter_ms, own, own_of}
+use Rattle.j39_vehicle_times.specs.Times.{askers_on, behind_at, behind_by, behind_release, delay_at, direct_feeder, flow_at, first_input_at, jitter_ms, own, own_of}
 use Rattle.j39_vehicle_times.specs.Times.{queued_behind, queued_of, sum_known, timing_on, us_of_ms, within_of}
 use Rattle.j39_vehicle_time_laws.specs.ForwardedStreams.{streams_of}
 use Rattle.j39_vehicle_time_laws.specs.KeptBuses.{IsKnownBus, asked_on}
@@ -171,6 +171,7 @@ module _ (v : Vehicle) (scope : Scope) (delays : Delays) (stated : AreDelays v d
     pub its : flow_at v.buses.items (at_of b i) ≡ Some flow
     pub bits : ℕ
     pub delayed : delay_at delays (at_of b i) ≡ Some bits
+    pub none_asks : askers_on v.buses.items b flow ≡ 0
 
   module _ (b i : ℕ) (t : TimedBus v scope b) (is : IsStated b i t) where
     abbrev pub time : ℕ
@@ -192,7 +193,7 @@ module _ (v : Vehicle) (scope : Scope) (delays : Delays) (stated : AreDelays v d
     stream_is = ap (λ (f : FlowFrames). f.stream) frames_are
 
     pub streamed : HasStream t.timing is.flow bounded_here.frames bounded_here.load.limit
-    streamed = its_stream v delays stated (at_of b i) (own_of t.timing is.flow is.bits) has
+    streamed = its_stream v delays stated (at_of b i) (own_of t.timing is.flow is.bits) has is.none_asks
 
     pub single_here : IsSingle (stream_of t i)
     single_here = subst (λ (x : Stream). IsSingle x) (sym stream_is) streamed.single
@@ -207,17 +208,17 @@ module _ (v : Vehicle) (scope : Scope) (delays : Delays) (stated : AreDelays v d
     own_value =
         let same : longest_bit v b * (wait_with b i (Some t) + (stream_of t i).bits) ≡ longest_bit v b * (bounded_here.wait + bounded_here.frames.stream.bits) =
         ap (λ (w : ℕ). longest_bit v b * (w + (stream_of t i).bits)) wait_is ∙ ap (λ (x : Stream). longest_bit v b * (bounded_here.wait + x.bits)) stream_is in
-        let fits = own_is v delays stated (at_of b i) (own_of t.timing is.flow is.bits) has in
+        let fits = own_is v delays stated (at_of b i) (own_of t.timing is.flow is.bits) has is.none_asks in
         omega (arith, same, fits)
 
     pub release_value : behind_release v delays (at_of b i) ≡ Some (us_of_bits t.timing is.bits)
-    release_value = release_is v delays stated (at_of b i) (own_of t.timing is.flow is.bits) has
+    release_value = release_is v delays stated (at_of b i) (own_of t.timing is.flow is.bits) has is.none_asks
 
     pub release_room : longest_bit v b * delay_of (stream_of t i) (wait_with b i (Some t)) ≤ of_us (us_of_bits t.timing is.bits)
     release_room =
         let same : longest_bit v b * delay_of (stream_of t i) (wait_with b i (Some t)) ≡ longest_bit v b * delay_of bounded_here.frames.stream bounded_here.wait =
         ap (λ (w : ℕ). longest_bit v b * delay_of (stream_of t i) w) wait_is ∙ ap (λ (x : Stream). longest_bit v b * delay_of x bounded_here.wait) stream_is in
-        let fits = release_fits v delays stated (at_of b i) (own_of t.timing is.flow is.bits) has in
+        let fits = release_fits v delays stated (at_of b i) (own_of t.timing is.flow is.bits) has is.none_asks in
         omega (arith, same, fits)
 
     -- its jitter, and its period, in true time
@@ -225,7 +226,7 @@ module _ (v : Vehicle) (scope : Scope) (delays : Delays) (stated : AreDelays v d
     late_value =
         let same : shortest_bit v b * (stream_of t i).jitter ≡ shortest_bit v b * bounded_here.frames.stream.jitter =
         ap (λ (x : Stream). shortest_bit v b * x.jitter) stream_is in
-        let room = jitter_room v delays stated (at_of b i) (own_of t.timing is.flow is.bits) has in
+        let room = jitter_room v delays stated (at_of b i) (own_of t.timing is.flow is.bits) has is.none_asks in
         omega (arith, same, room)
 
     pub period_value : longest_bit v b * (stream_of t i).period ≤ 1000 * streamed.period * shortest_million t.timing

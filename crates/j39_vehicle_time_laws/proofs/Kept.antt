@@ -27,7 +27,7 @@ use Rattle.j39_vehicle.specs.declared.vehicle.forward.Forward.{Forward}
 use Rattle.j39_vehicle_findings.specs.declared.point.FlowAt.{FlowAt}
 use Rattle.j39_vehicle_times.specs.declared.bus_delays.Delays.{Delays}
 use Rattle.j39_vehicle_times.specs.TimeFindings.{period_ms}
-use Rattle.j39_vehicle_times.specs.Times.{behind_at, behind_by, delay_at, direct_feeder, flow_at, first_input_at, jitter_ms, own, queued_of, shortest_on, sum_known, timing_on}
+use Rattle.j39_vehicle_times.specs.Times.{askers_on, behind_at, behind_by, delay_at, direct_feeder, flow_at, first_input_at, jitter_ms, latest_ms, own, queued_of, shortest_on, sum_known, timing_on}
 use Rattle.j39_vehicle_times.specs.Times.{us_of_ms, within_of}
 use Rattle.j39_vehicle_times.proofs.DecidingTimes.{and_then_some}
 use Rattle.j39_vehicle_time_laws.specs.ForwardedStreams.{AreForwardsTimely, AreOtherwiseKept, AreStreamsKept, IsOtherwiseKept, streams_of}
@@ -39,7 +39,7 @@ use Rattle.j39_vehicle_time_laws.proofs.Circle.{IsStated, TimedBus, all_of, at_o
 use Rattle.j39_vehicle_time_laws.proofs.Circle.{is_some_true, late_value, of_bus, owns, period_value, queued_value, single_here, stream_of, streamed}
 use Rattle.j39_vehicle_time_laws.proofs.Circle.{view, viewed, wait_is, wait_with, within_value}
 use Rattle.j39_vehicle_time_laws.proofs.Feeders.{feeder_is}
-use Rattle.j39_vehicle_time_laws.proofs.OneFlow.{delay_here, own_of_release, own_parts}
+use Rattle.j39_vehicle_time_laws.proofs.OneFlow.{delay_here, none_ask, own_of_release, own_parts}
 use Rattle.j39_vehicle_time_laws.proofs.Parts.{some_cases, sum_some}
 use Rattle.j39_vehicle_time_laws.proofs.TrueTimes.{clock_is}
 use Rattle.j39_vehicle_time_laws.proofs.Starts.{starts_within}
@@ -160,13 +160,16 @@ module _ (v : Vehicle) (scope : Scope) (delays : Delays) (stated : AreDelays v d
       let (own_x, owns_x) = behind_own v delays (length v.forwards.items) x before known_x in
       let parts = own_parts v delays x own_x owns_x in
       let among : scope.flows x ≡ true = closed.sources (at_of b i) x t.inside from in
+      let none_asks : askers_on v.buses.items b tm.flow ≡ 0 = none_ask v (at_of b i) tm.flow tm.its (closed.sent_unasked (at_of b i) x t.inside from) in
+      let none_there : askers_on v.buses.items x.bus parts.flow ≡ 0 = none_ask v x parts.flow parts.its (closed.unasked x among) in
+      let soon : tm.queued ≤ us_of_ms (jitter_ms tm.flow) = subst (λ (k : ℕ). tm.queued ≤ us_of_ms (latest_ms k tm.flow)) none_asks tm.in_jitter in
       let (tx, view_x) = viewed v scope x.bus parts.timing (closed.its_bus x among) parts.timed in
       let other : tm.other ≡ parts.flow = same_Some _ _ (sym (subst (λ (f : FlowAt). flow_at v.buses.items f ≡ Some tm.other) same_input tm.other_is)
       ∙ parts.its) in
       record {
         t = t;
         view_is = view_is;
-        here = record { flow = tm.flow; its = tm.its; bits = bits; delayed = delayed };
+        here = record { flow = tm.flow; its = tm.its; bits = bits; delayed = delayed; none_asks = none_asks };
         x = x;
         from = from;
         among = among;
@@ -175,12 +178,12 @@ module _ (v : Vehicle) (scope : Scope) (delays : Delays) (stated : AreDelays v d
         input = input;
         tx = tx;
         view_x = view_x;
-        there = record { flow = parts.flow; its = parts.its; bits = parts.bits; delayed = parts.delayed };
+        there = record { flow = parts.flow; its = parts.its; bits = parts.bits; delayed = parts.delayed; none_asks = none_there };
         before = before;
         before_is = known_x;
         within = within;
         promised = promised;
-        in_jitter = let most = tm.in_jitter in omega (arith, most, sum);
+        in_jitter = omega (arith, soon, sum);
         no_nearer = λ p is.
             let (q, its, le) = tm.no_nearer p is in (
               q,

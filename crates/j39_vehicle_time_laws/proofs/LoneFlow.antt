@@ -5,6 +5,7 @@ use Rattle.std.proofs.Math.Nat.{mul-le-mul_right}
 use Rattle.std.proofs.lemmas.Bool.{cases_eq, cases_lt, true≢false}
 use Rattle.std.proofs.lemmas.Option.{slice_get-map}
 use Rattle.std.specs.List.{slice_get}
+use Rattle.std.specs.Option.{option_map_or}
 use Rattle.j39_network.specs.PlannedUnits.{unit_at, units_of}
 use Rattle.j39_network.specs.declared.plan.flow_plan.FlowPlan.{FlowPlan}
 use Rattle.j39_network.specs.declared.plan.timing.Timing.{Timing}
@@ -17,7 +18,9 @@ use Rattle.j39_load.specs.declared.frames.messages.Messages.TheVariants.{Short}
 use Rattle.j39_load.specs.AnyQueues.{keep_order}
 use Rattle.j39_load.specs.Asked.{Asked, frames_asked}
 use Rattle.j39_load.specs.Damage.{damage_frames}
-use Rattle.j39_load.specs.Loads.{flow_load, group_ident, load_of_flow, single_frames}
+use Rattle.j39_load.specs.AnswerStreams.{askers_of, frames_for}
+use Rattle.j39_load.specs.FlowLoads.{asked_load, load_of_flow}
+use Rattle.j39_load.specs.Loads.{group_ident, single_frames}
 use Rattle.j39_load.specs.PlannedFrames.{IsBounded, planned_at}
 use Rattle.j39_load.specs.Ranks.{AreUnitsPlanned}
 use Rattle.j39_load.proofs.BoundedFlows.{all_in_order, bounded, legal_in_order}
@@ -31,6 +34,7 @@ use Rattle.j39_timing.specs.TimedFrames.{IsLegal, Schedule}
 use Rattle.j39_timing.specs.Traffic.{Traffic}
 use Rattle.j39_load.specs.Clocks.{IsTrueTime, shortest_million}
 use Rattle.j39_vehicle.specs.declared.vehicle.Vehicle.{Vehicle}
+use Rattle.j39_vehicle.specs.declared.vehicle.bus_plan.BusPlan.{BusPlan}
 use Rattle.j39_vehicle_times.specs.BusDelays.{delays_on}
 use Rattle.j39_vehicle_times.specs.TimeFindings.{period_ms}
 use Rattle.j39_vehicle_times.specs.Times.{flow_at}
@@ -38,9 +42,9 @@ use Rattle.j39_vehicle_times.specs.declared.bus_delays.Delays.{Delays}
 use Rattle.j39_vehicle_times.proofs.DecidingTimes.{and_then_some, map_some}
 use Rattle.j39_vehicle_time_laws.specs.ForwardedStreams.{IsOtherwiseKept, KeepsOtherwise, streams_of}
 use Rattle.j39_vehicle_time_laws.specs.KeptBuses.{IsKnownBus, asked_on}
-use Rattle.j39_vehicle_time_laws.specs.Prompt.{IsSentOn}
+use Rattle.j39_vehicle_time_laws.specs.Prompt.{IsSentOn, is_unasked}
 use Rattle.j39_vehicle_time_laws.specs.Seen.{SeenBus}
-use Rattle.j39_vehicle_time_laws.proofs.OneFlow.{short_frames}
+use Rattle.j39_vehicle_time_laws.proofs.OneFlow.{none_ask, short_frames}
 
 -- ---- a bus with frames of one flow
 
@@ -120,7 +124,7 @@ pub record Fits (traffic : Traffic) (flow ident : ℕ) : Type 0 where
   pub high : ident ≤ traffic.greatest flow
 
 module _ (v : Vehicle) (delays : Delays) (b : ℕ) (timing : Timing) (of_bus : IsKnownBus v delays b timing) (i bits : ℕ)
-    (delayed : slice_get (delays_on delays b) i ≡ Some (Some (Within bits))) where
+    (delayed : slice_get (delays_on delays b) i ≡ Some (Some (Within bits))) (unasked : is_unasked v (record { bus = b; flow = i }) ≡ true) where
   abbrev asked : Asked
   asked = asked_on of_bus
 
@@ -132,11 +136,17 @@ module _ (v : Vehicle) (delays : Delays) (b : ℕ) (timing : Timing) (of_bus : I
       let (one, at_one, here) = map_some (load_of_flow timing of_bus.bus.plan of_bus.stays) (slice_get of_bus.bus.plan.flows.items i) (Some its_bound.load)
       (sym (slice_get-map (load_of_flow timing of_bus.bus.plan of_bus.stays) of_bus.bus.plan.flows.items i) ∙ its_bound.its) in
       let (pace, paced, rest) = and_then_some _ one.pace its_bound.load here in
-      let (group, of, made) = map_some (flow_load timing of_bus.bus.plan.units.items of_bus.stays one pace) (slice_get of_bus.bus.plan.groups.items one.group)
+      let (group, of, made) = map_some (asked_load timing of_bus.bus.plan.requests.items of_bus.bus.plan.units.items of_bus.stays one pace) (slice_get of_bus.bus.plan.groups.items one.group)
       its_bound.load rest in
       let short = ap (λ (l : FlowLoad). l.messages) made ∙ its_bound.short in
-      let same : single_frames timing of_bus.bus.plan.units.items of_bus.stays one pace group ≡ its_bound.frames =
-      short_frames timing of_bus.bus.plan.units.items of_bus.stays one pace group its_bound.frames short in
+      let flow_is : flow_at v.buses.items (record { bus = b; flow = i }) ≡ Some one =
+      ap (λ (o : Option BusPlan). slice_get (option_map_or (λ (x : BusPlan). x.plan.flows.items) o []) i) of_bus.its ∙ at_one in
+      let none_asks : askers_of of_bus.bus.plan.requests.items one ≡ 0 =
+      ap (λ (o : Option BusPlan). option_map_or (λ (x : BusPlan). askers_of x.plan.requests.items one) o 0) (sym of_bus.its)
+      ∙ none_ask v (record { bus = b; flow = i }) one flow_is unasked in
+      let same : frames_for timing pace (askers_of of_bus.bus.plan.requests.items one) (single_frames timing of_bus.bus.plan.units.items of_bus.stays one pace group)
+      ≡ its_bound.frames =
+      short_frames timing of_bus.bus.plan.units.items of_bus.stays one pace group (askers_of of_bus.bus.plan.requests.items one) its_bound.frames short in
       let planned : AreUnitsPlanned of_bus.bus.plan one = record {
         sender = all_at (λ (g : FlowPlan). g.sender < length of_bus.bus.plan.units.items) of_bus.bus.plan.flows.items of_bus.bus.plan.flow_senders i one at_one;
         receiver = all_at (λ (g : FlowPlan). (u : ℕ) → g.to ≡ One u → u < length of_bus.bus.plan.units.items) of_bus.bus.plan.flows.items
@@ -150,15 +160,16 @@ module _ (v : Vehicle) (delays : Delays) (b : ℕ) (timing : Timing) (of_bus : I
       let some : 1 ≤ (single_frames timing of_bus.bus.plan.units.items of_bus.stays one pace group).stream.bits = omega arith in
       let here_placed : planned_at (frames_asked (asked_on of_bus) ++ damage_frames timing) i ≡ its_bound.frames =
       with_damage timing (frames_asked (asked_on of_bus)) i its_bound.frames at in
-      let all_same : single_frames timing of_bus.bus.plan.units.items of_bus.stays one pace group ≡ planned_at (frames_asked
-      (asked_on of_bus) ++ damage_frames timing) i =
+      let all_same : frames_for timing pace (askers_of of_bus.bus.plan.requests.items one) (single_frames timing of_bus.bus.plan.units.items of_bus.stays one pace group)
+      ≡ planned_at (frames_asked (asked_on of_bus) ++ damage_frames timing) i =
       same ∙ sym here_placed in (
         group_ident (λ u. (unit_at (units_of of_bus.bus.plan) u).preferred) group one,
         record {
           inside = longer (frames_asked asked) (damage_frames timing) i (get_or_inside (frames_asked asked) i its_bound.frames at);
-          unwanted = ap (λ (f : FlowFrames). f.stream.wanted) (sym all_same);
+          unwanted = ap (λ (f : FlowFrames). f.stream.wanted) (sym all_same)
+              ∙ ap (λ (k : ℕ). (frames_for timing pace k (single_frames timing of_bus.bus.plan.units.items of_bus.stays one pace group)).stream.wanted) none_asks;
           some_bits = subst (λ (f : FlowFrames). 1 ≤ f.stream.bits) all_same some;
-          single = subst (λ (f : FlowFrames). f.stream.frames ≡ 1) (sym here_placed) paces.1.0;
+          single = subst (λ (f : FlowFrames). f.stream.frames ≡ 1) (sym here_placed) paces.1;
           low = subst (λ (f : FlowFrames). f.least_ident ≤ group_ident (λ u. (unit_at
               (units_of of_bus.bus.plan) u).preferred) group one) all_same between.least;
           high = subst (λ (f : FlowFrames). group_ident (λ u. (unit_at

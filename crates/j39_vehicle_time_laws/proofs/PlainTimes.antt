@@ -11,7 +11,7 @@ use Rattle.j39_load.specs.Clocks.{bit_time, million}
 use Rattle.j39_vehicle.specs.declared.vehicle.Vehicle.{Vehicle}
 use Rattle.j39_vehicle.specs.declared.vehicle.forward.Forward.{Forward}
 use Rattle.j39_vehicle_times.specs.TimeFindings.{AreTimeFindings, IsDirectBetween, IsKnownWithin, IsUnlimited, TimeHolds}
-use Rattle.j39_vehicle_times.specs.Times.{behind_at, direct_feeder, first_input_at, flow_at, interval, interval_by, interval_us, jitter_ms, old, pause_on, queued_of, sum_known, timing_on}
+use Rattle.j39_vehicle_times.specs.Times.{askers_on, behind_at, direct_feeder, first_input_at, flow_at, interval, interval_by, interval_us, latest_ms, old, pause_on, queued_of, sum_known, timing_on}
 use Rattle.j39_vehicle_times.specs.Times.{unasked_at, us_of_ms}
 use Rattle.j39_vehicle_findings.specs.declared.point.FlowAt.{FlowAt}
 use Rattle.j39_vehicle_times.specs.declared.bus_delays.Delays.{Delays}
@@ -47,7 +47,7 @@ answers_stay_answers v delays clean place n input output goes asked = elim (case
   | inr unasked ↦ absurd (nothing_timed v delays clean (TooOften place) (record {
     value = n;
     value_is = goes.its;
-    meets = between v place n input output goes _ (inr (asked, unasked));
+    meets = between v place n input output goes _ (inl (inr (asked, unasked)));
   }))
 ]
 
@@ -60,12 +60,10 @@ known_or_not most (Some q) = elim (cases_lt most q) [
 
 pub deadlines_have_room : (v : Vehicle) (delays : Delays) → AreTimeFindings v delays [] → DeadlinesHaveRoom v delays
 deadlines_have_room v delays clean place n input output pace deadline goes paced due =
-    let jitter : us_of_ms (jitter_ms output) ≡ 1000 * pace.jitter =
-    ap (λ o. 1000 * option_map_or (λ (p : Pace). p.jitter) o 0) paced in
     let limited : ¬ IsUnlimited v n output =
     λ free. none-some _ (sym free.limit ∙ ap (option_and_then (λ (p : Pace). p.deadline)) paced ∙ due) in
-    elim (known_or_not (us_of_ms (jitter_ms output)) (queued_of v delays n)) [
-      | inl known ↦ let (q, is, few) = known in (q, is, omega (arith, few, jitter))
+    elim (known_or_not (us_of_ms (latest_ms (askers_on v.buses.items n.output.bus output) output)) (queued_of v delays n)) [
+      | inl known ↦ known
       | inr unknown ↦ absurd (nothing_timed v delays clean (TooLate place) (record {
         value = n;
         value_is = goes.its;

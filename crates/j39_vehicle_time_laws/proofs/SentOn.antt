@@ -34,13 +34,13 @@ use Rattle.j39_vehicle_times.proofs.DecidingTimes.{and_then_some, map_some}
 use Rattle.j39_vehicle_time_laws.specs.ForwardedStreams.{AreOtherwiseKept, IsOtherwiseKept, streams_of}
 use Rattle.j39_vehicle_time_laws.specs.KeptBuses.{IsKnownBus, asked_on}
 use Rattle.j39_vehicle_time_laws.specs.MessagesSentOn.{CanBeSentOn, CanMessagesBeSentOn, CarriesValues, IsLoneForward, IsPacedFlow}
-use Rattle.j39_vehicle_time_laws.specs.Prompt.{ArePrompt, IsSentDirectly, IsSentOn, scope_on, whole_vehicle}
+use Rattle.j39_vehicle_time_laws.specs.Prompt.{ArePrompt, IsSentDirectly, IsSentOn, is_unasked, scope_on, sent_from, whole_vehicle}
 use Rattle.j39_vehicle_time_laws.specs.Seen.{SeenBus, SeenBuses, frames_at, longest_bit, of_us, shortest_bit}
 use Rattle.j39_vehicle_time_laws.specs.VehicleAges.{IsPromptVehicle}
 use Rattle.j39_vehicle_time_laws.specs.YoungValues.{KeepsItsPause}
 use Rattle.j39_vehicle_laws.specs.Faithful.{KeepsContents, PassesValues}
 use Rattle.j39_vehicle_time_laws.proofs.Feeders.{fed_by}
-use Rattle.j39_vehicle_time_laws.proofs.OneFlow.{HasOwn, bound, its_stream, known_bus, placed}
+use Rattle.j39_vehicle_time_laws.proofs.OneFlow.{HasOwn, bound, its_stream, known_bus, none_ask, placed}
 use Rattle.j39_vehicle_time_laws.proofs.Kept.{one_traffic}
 use Rattle.j39_vehicle_time_laws.proofs.LoneFlow.{Fits, KeepsItsPace, LoneFlow, bus_with, fits, lone_kept, none_kept}
 use Rattle.j39_vehicle_time_laws.proofs.TwoBuses.{at_x, at_y, both_buses, each_bus, in_both, seen_other, seen_x, seen_y}
@@ -55,13 +55,24 @@ module _ (v : Vehicle) (delays : Delays) (stated : AreDelays v delays) (n : ℕ)
       let (d, here, within) = and_then_some bits_within (slice_get (delays_on delays at.bus) at.flow) bits delayed in
       here ∙ ap (λ (o : Option Delay). Some o) (within_some d bits within)
 
+  sent_from_x : sent_from v delays y ≡ Some x
+  sent_from_x = ap (λ (o : Option ℕ). option_and_then (λ (bits : ℕ). option_and_then (first_input_at v) (direct_feeder v y)) o) lone.stated_y.1
+      ∙ (ap (option_and_then (first_input_at v)) lone.fed ∙ lone.sends.input)
+
+  is_sent_on : IsSentOn v delays y
+  is_sent_on = (x, sent_from_x)
+
+  -- no request that has a period asks for them
+  are_unasked : (is_unasked v y ≡ true) × (is_unasked v x ≡ true)
+  are_unasked = lone.unasked y x sent_from_x
+
   fits_x : (ident : ℕ) × Fits (streams_of lone.timed_x.0 (frames_asked (asked_on (known_bus v delays stated x.bus lone.timed_x.0 lone.timed_x.1)))) x.flow ident
   fits_x = fits v delays x.bus lone.timed_x.0 (known_bus v delays stated x.bus lone.timed_x.0 lone.timed_x.1) x.flow lone.stated_x.0
-      (stated_at x lone.stated_x.0 lone.stated_x.1)
+      (stated_at x lone.stated_x.0 lone.stated_x.1) are_unasked.1
 
   fits_y : (ident : ℕ) × Fits (streams_of lone.timed_y.0 (frames_asked (asked_on (known_bus v delays stated y.bus lone.timed_y.0 lone.timed_y.1)))) y.flow ident
   fits_y = fits v delays y.bus lone.timed_y.0 (known_bus v delays stated y.bus lone.timed_y.0 lone.timed_y.1) y.flow lone.stated_y.0
-      (stated_at y lone.stated_y.0 lone.stated_y.1)
+      (stated_at y lone.stated_y.0 lone.stated_y.1) are_unasked.0
 
   ident_x : ℕ
   ident_x = fits_x.0
@@ -184,13 +195,6 @@ module _ (v : Vehicle) (delays : Delays) (stated : AreDelays v delays) (n : ℕ)
     ]
   ]
 
-  is_sent_on : IsSentOn v delays y
-  is_sent_on = (
-    x,
-    ap (λ (o : Option ℕ). option_and_then (λ (bits : ℕ). option_and_then (first_input_at v) (direct_feeder v y)) o) lone.stated_y.1
-        ∙ (ap (option_and_then (first_input_at v)) lone.fed ∙ lone.sends.input),
-  )
-
   timed_of : (b : ℕ) (timing : Timing) → IsKnownBus v delays b timing → timing_on v.buses.items b ≡ Some timing
   timed_of b timing of_bus = ap (option_and_then (λ (bus : BusPlan). timing_of bus.plan)) of_bus.its ∙ of_bus.timed
 
@@ -209,7 +213,8 @@ module _ (v : Vehicle) (delays : Delays) (stated : AreDelays v delays) (n : ℕ)
   period_x : ((streams_of lone.timed_x.0 (frames_asked (asked_on (known_bus v delays stated x.bus lone.timed_x.0 lone.timed_x.1)))).stream x.flow).period ≤ width_x
   unfolding has_own
   period_x =
-      let stream = its_stream v delays stated x (own_of lone.timed_x.0 paced.flow lone.stated_x.0) has_own in
+      let stream = its_stream v delays stated x (own_of lone.timed_x.0 paced.flow lone.stated_x.0) has_own
+      (none_ask v x paced.flow paced.its are_unasked.1) in
       let same : stream.period ≡ paced.ms = same_Some _ _ (sym stream.period_is ∙ paced.period) in
       let few = fewer_bits lone.timed_x.0 paced.ms in
       let bits : (bound v delays stated x (own_of lone.timed_x.0 paced.flow lone.stated_x.0) has_own).frames.stream.period ≡ bits_at_least lone.timed_x.0 paced.ms =
@@ -230,28 +235,28 @@ module _ (v : Vehicle) (delays : Delays) (stated : AreDelays v delays) (n : ℕ)
         omega (arith, less, most);
   }
 
-  kept : AreOtherwiseKept v delays whole_vehicle seen
+  kept : AreOtherwiseKept v delays (whole_vehicle v) seen
   kept b timing of_bus inside = elim (cases_Bool (eqb b x.bus)) [
     | inl is ↦
         let same : b ≡ x.bus = eqb-true b x.bus is in
-        subst (λ (s : SeenBus). IsOtherwiseKept v delays b timing (frames_asked (asked_on of_bus)) (scope_on whole_vehicle b) s) (sym (seen_x x.bus y.bus bus_x bus_y bus_none b is))
-        (subst (λ (c : ℕ). (other : IsKnownBus v delays c timing) → IsOtherwiseKept v delays c timing (frames_asked (asked_on other)) (scope_on whole_vehicle c) bus_x) (sym same)
+        subst (λ (s : SeenBus). IsOtherwiseKept v delays b timing (frames_asked (asked_on of_bus)) (scope_on (whole_vehicle v) b) s) (sym (seen_x x.bus y.bus bus_x bus_y bus_none b is))
+        (subst (λ (c : ℕ). (other : IsKnownBus v delays c timing) → IsOtherwiseKept v delays c timing (frames_asked (asked_on other)) (scope_on (whole_vehicle v) c) bus_x) (sym same)
         (λ other. lone_kept timing lone_x some_x (unit_true v x.bus timing (timed_of x.bus timing other)) (frames_asked (asked_on other))
         (subst (λ (tr : Traffic). Fits tr x.flow ident_x)
         (one_traffic v delays x.bus lone.timed_x.0 timing (known_bus v delays stated x.bus lone.timed_x.0 lone.timed_x.1) other) fits_of_x)
-        (lone.in_order x.bus timing other) v delays x.bus (scope_on whole_vehicle x.bus) (λ own. pace_x timing other)) of_bus)
+        (lone.in_order x.bus timing other) v delays x.bus (scope_on (whole_vehicle v) x.bus) (λ own. pace_x timing other)) of_bus)
     | inr isnt ↦ elim (cases_Bool (eqb b y.bus)) [
       | inl is ↦
           let same : b ≡ y.bus = eqb-true b y.bus is in
-          subst (λ (s : SeenBus). IsOtherwiseKept v delays b timing (frames_asked (asked_on of_bus)) (scope_on whole_vehicle b) s) (sym (seen_y x.bus y.bus bus_x bus_y bus_none b isnt is))
-          (subst (λ (c : ℕ). (other : IsKnownBus v delays c timing) → IsOtherwiseKept v delays c timing (frames_asked (asked_on other)) (scope_on whole_vehicle c) bus_y) (sym same)
+          subst (λ (s : SeenBus). IsOtherwiseKept v delays b timing (frames_asked (asked_on of_bus)) (scope_on (whole_vehicle v) b) s) (sym (seen_y x.bus y.bus bus_x bus_y bus_none b isnt is))
+          (subst (λ (c : ℕ). (other : IsKnownBus v delays c timing) → IsOtherwiseKept v delays c timing (frames_asked (asked_on other)) (scope_on (whole_vehicle v) c) bus_y) (sym same)
           (λ other. lone_kept timing lone_y some_y (unit_true v y.bus timing (timed_of y.bus timing other)) (frames_asked (asked_on other))
           (subst (λ (tr : Traffic). Fits tr y.flow ident_y)
           (one_traffic v delays y.bus lone.timed_y.0 timing (known_bus v delays stated y.bus lone.timed_y.0 lone.timed_y.1) other) fits_of_y)
-          (lone.in_order y.bus timing other) v delays y.bus (scope_on whole_vehicle y.bus) (λ own. absurd (own is_sent_on))) of_bus)
+          (lone.in_order y.bus timing other) v delays y.bus (scope_on (whole_vehicle v) y.bus) (λ own. absurd (own is_sent_on))) of_bus)
       | inr neither ↦
-          subst (λ (s : SeenBus). IsOtherwiseKept v delays b timing (frames_asked (asked_on of_bus)) (scope_on whole_vehicle b) s) (sym (seen_other x.bus y.bus bus_x bus_y bus_none b isnt neither))
-          (none_kept v delays b timing (frames_asked (asked_on of_bus)) (scope_on whole_vehicle b) (lone_none b) refl (omega arith)
+          subst (λ (s : SeenBus). IsOtherwiseKept v delays b timing (frames_asked (asked_on of_bus)) (scope_on (whole_vehicle v) b) s) (sym (seen_other x.bus y.bus bus_x bus_y bus_none b isnt neither))
+          (none_kept v delays b timing (frames_asked (asked_on of_bus)) (scope_on (whole_vehicle v) b) (lone_none b) refl (omega arith)
           (unit_true v b timing (timed_of b timing of_bus)))
     ]
   ]
@@ -361,7 +366,7 @@ module _ (v : Vehicle) (delays : Delays) (stated : AreDelays v delays) (n : ℕ)
     | inr same ↦ differ (lone.alone m other its (subst (λ (f : FlowAt). feeds v f other ≡ true) same feeding))
   ]
 
-  prompt : ArePrompt v delays whole_vehicle seen
+  prompt : ArePrompt v delays (whole_vehicle v) seen
   prompt = record {
     direct = λ m other a b time sends direct inside stated_a stated_b. elim (cases_eq m n) [
       | inl same ↦
@@ -419,8 +424,13 @@ module _ (v : Vehicle) (delays : Delays) (stated : AreDelays v delays) (n : ℕ)
 
   abbrev whole : IsPromptVehicle v delays seen by
   whole = record {
-    scope = whole_vehicle;
-    closed = record { its_bus = λ at among. refl; sources = λ at from inside sent. refl };
+    scope = whole_vehicle v;
+    closed = record {
+      its_bus = λ at among. refl;
+      sources = λ at from inside sent. (lone.unasked at from sent).1;
+      unasked = λ at among. among;
+      sent_unasked = λ at from inside sent. (lone.unasked at from sent).0;
+    };
     kept = kept;
     until = λ b timing inside timed.
         each_bus x.bus y.bus bus_x bus_y bus_none b (λ s. by ≤ s.time s.schedule.now) (times_more (unit_at v x.bus) width_x (unit_some v x.bus)) (times_more (unit_at v y.bus) width_y (unit_some v y.bus))

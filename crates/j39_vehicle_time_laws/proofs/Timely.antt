@@ -25,7 +25,7 @@ use Rattle.j39_vehicle_findings.specs.declared.finding.VehicleFinding.TheVariant
 use Rattle.j39_vehicle_findings.specs.declared.point.FlowAt.{FlowAt}
 use Rattle.j39_vehicle_findings.proofs.Deciding.{Decides-has_many_outputs, Decides-is_direct, Decides-is_input}
 use Rattle.j39_vehicle_times.specs.TimeFindings.{AreTimeFindings, IsDirectBetween, IsUnlimited, first_output, period_ms}
-use Rattle.j39_vehicle_times.specs.Times.{bits_within, delay_at, direct_feeder, flow_at, first_input_at, jitter_ms, queued_of, interval, longest_on, shortest_on, timing_on, us_of_ms}
+use Rattle.j39_vehicle_times.specs.Times.{askers_on, bits_within, delay_at, direct_feeder, flow_at, first_input_at, latest_ms, queued_of, interval, longest_on, shortest_on, timing_on, us_of_ms}
 use Rattle.j39_vehicle_times.specs.declared.bus_delays.Delays.{Delays}
 use Rattle.j39_vehicle_times.specs.declared.ends.Ends.{Ends}
 use Rattle.j39_vehicle_times.specs.declared.finding.TimeFinding.TheVariants.{TooLate, TooOften, TooRare}
@@ -208,12 +208,16 @@ module _ (v : Vehicle) (delays : Delays) (none : AreFindings v []) (stated : Are
     related = related;
   }
 
+  -- in so many milliseconds it has to be queued
+  abbrev latest : ℕ → ℕ
+  latest b = latest_ms (askers_on v.buses.items b sends.flow) sends.flow
+
   record HasQueued : Type 0 where
     queued : ℕ
     queued_is : queued_of v delays n ≡ Some queued
-    in_jitter : queued ≤ us_of_ms (jitter_ms sends.flow)
+    in_jitter : queued ≤ us_of_ms (latest n.output.bus)
 
-  too_late : ¬ ((q : ℕ) × (queued_of v delays n ≡ Some q) × (q ≤ us_of_ms (jitter_ms sends.flow))) → ⊥
+  too_late : ¬ ((q : ℕ) × (queued_of v delays n ≡ Some q) × (q ≤ us_of_ms (latest n.output.bus))) → ⊥
   too_late late =
       let finding = in_time.complete (TooLate place) (record { value = n; value_is = feeding.its; meets = between _ (is_limited, late) }) in
       omega (arith, finding.1)
@@ -221,7 +225,7 @@ module _ (v : Vehicle) (delays : Delays) (none : AreFindings v []) (stated : Are
   queued : HasQueued
   queued = some_cases (queued_of v delays n) HasQueued
       (λ unknown. absurd (too_late (λ known. none-some known.0 (sym unknown ∙ known.1))))
-      (λ q is. elim (cases_lt (us_of_ms (jitter_ms sends.flow)) q) [
+      (λ q is. elim (cases_lt (us_of_ms (latest n.output.bus)) q) [
         | inl above ↦ absurd (too_late (λ known. let same : known.0 ≡ q = same_Some _ _ (sym known.1
             ∙ is) in let le = known.2 in omega (arith, above, same, le)))
         | inr within ↦ record { queued = q; queued_is = is; in_jitter = omega (arith, within) }
@@ -239,7 +243,7 @@ module _ (v : Vehicle) (delays : Delays) (none : AreFindings v []) (stated : Are
 
   too_often : (p : ℕ) → period_ms sends.flow ≡ Some p → ¬ ((q : ℕ) × (period_ms input.plan ≡ Some q) × (p * least ≤ q * least_there)) → ⊥
   too_often p is nearer =
-      let finding = in_time.complete (TooOften place) (record { value = n; value_is = feeding.its; meets = between _ (inl (p, is, nearer)) }) in
+      let finding = in_time.complete (TooOften place) (record { value = n; value_is = feeding.its; meets = between _ (inl (inl (p, is, nearer))) }) in
       omega (arith, finding.1)
 
   periods : (p : ℕ) → period_ms sends.flow ≡ Some p → (q : ℕ) × (period_ms input.plan ≡ Some q) × (p * least ≤ q * least_there)
@@ -286,7 +290,7 @@ module _ (v : Vehicle) (delays : Delays) (none : AreFindings v []) (stated : Are
     its = sends.its;
     queued = queued.queued;
     queued_is = queued.queued_is;
-    in_jitter = queued.in_jitter;
+    in_jitter = subst (λ (b : ℕ). queued.queued ≤ us_of_ms (latest b)) sends.bus queued.in_jitter;
     other = input.plan;
     other_is = input.plan_is;
     no_nearer = λ p is.

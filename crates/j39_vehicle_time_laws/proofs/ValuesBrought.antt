@@ -19,7 +19,8 @@ use Rattle.j39_load.specs.ReadInTime.{AreWritten}
 use Rattle.j39_load.specs.SentFrames.{Announcing, Carrying, FrameSources, IsMsBefore, Single, goes_to}
 use Rattle.j39_load.specs.ValuesInTime.{KeepsPause}
 use Rattle.j39_load.proofs.KeepingApart.{few_ident}
-use Rattle.j39_load.proofs.KeepingPlanned.{keeps_queues, of_one_source, one_source_kept, planned_address, planned_controllers, planned_held, planned_single, slots_kept}
+use Rattle.j39_load.proofs.KeepingPlanned.{a_period_apart, answer_nothing, keeps_all, keeps_queues, none_sent, of_one_source, planned_address, planned_controllers, planned_held}
+use Rattle.j39_load.proofs.KeepingPlanned.{planned_single, slots_kept, steps_behind}
 use Rattle.j39_load.proofs.Milliseconds.{at_once, faster, some_fast}
 use Rattle.j39_load.proofs.Slots.{slots}
 use Rattle.j39_timing.specs.Rounds.{all_planned}
@@ -79,9 +80,13 @@ module _ (plan : Plan) (timing : Timing) (apart : ArePlannedApart (units_of plan
   to_one = ((λ u m same. cc), (λ u m k same. cc))
 
   keeps : KeepsToPlan plan timing bus all_planned sent (planned_held plan apart)
-  keeps = one_source_kept plan timing apart f flow pace is.its is.paced (Single f) width (omega arith) (λ ms every. every) to_one bus
+  keeps = keeps_all plan timing apart bus sent
       (λ p in_p. planned_single plan timing apart f flow pace group is.its is.paced is.of is.short bus (p * width) p (omega arith) (omega arith)
       (at_once timing pace.jitter (p * width)) refl)
+      (λ p q ms differ same every.
+      a_period_apart plan timing f flow pace is.its is.paced width (steps_behind timing pace.period width (omega arith)) p q ms differ every)
+      (answer_nothing plan timing bus sent f flow is.its is.unasked (λ p g own. own) (λ u. refl))
+      (none_sent plan timing bus all_planned sent (λ u. refl) (λ p u m same. to_one.0 u m same) (λ p u m k same. to_one.1 u m k same))
 
   queues : KeepsQueues plan timing bus (planned_controllers plan (λ p. flow.sender)) all_planned sent
   queues = keeps_queues plan timing bus sent (λ p. flow.sender)

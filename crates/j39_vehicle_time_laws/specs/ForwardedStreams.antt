@@ -21,7 +21,7 @@ use Rattle.j39_vehicle.specs.declared.vehicle.forward.Forward.{Forward}
 use Rattle.j39_vehicle_findings.specs.declared.point.FlowAt.{FlowAt}
 use Rattle.j39_vehicle_times.specs.BusDelays.{AreDelays, delays_on}
 use Rattle.j39_vehicle_times.specs.TimeFindings.{period_ms}
-use Rattle.j39_vehicle_times.specs.Times.{delay_at, direct_feeder, flow_at, first_input_at, jitter_ms, queued_of, shortest_on}
+use Rattle.j39_vehicle_times.specs.Times.{askers_on, delay_at, direct_feeder, flow_at, first_input_at, latest_ms, queued_of, shortest_on}
 use Rattle.j39_vehicle_times.specs.declared.bus_delays.Delays.{Delays}
 use Rattle.j39_vehicle_time_laws.specs.KeptBuses.{AreKeptBuses, IsKnownBus, asked_on}
 use Rattle.j39_vehicle_time_laws.specs.Prompt.{ArePrompt, HaveOwnReleases, IsScope, IsSentOn, Scope, scope_on}
@@ -85,7 +85,7 @@ AreOtherwiseKept v delays scope seen = (b : ℕ) (timing : Timing) (of_bus : IsK
 
 -- ---- what follows
 
--- the jitter of a flow that is sent on has room for the time before it is queued, and its messages needn't be further apart than those of the input
+-- the jitter of a flow that is sent on, or its time to answer, has room for the time before it is queued, and its messages needn't be further apart than those of the input
 -- are, each by the fastest clocks
 pub record IsForwardTimely (v : Vehicle) (delays : Delays) (at : FlowAt) (n : Forward) : Type 0 where
   pub input : FlowAt
@@ -94,7 +94,7 @@ pub record IsForwardTimely (v : Vehicle) (delays : Delays) (at : FlowAt) (n : Fo
   pub its : flow_at v.buses.items at ≡ Some flow
   pub queued : ℕ
   pub queued_is : queued_of v delays n ≡ Some queued
-  pub in_jitter : queued ≤ 1000 * jitter_ms flow
+  pub in_jitter : queued ≤ 1000 * latest_ms (askers_on v.buses.items at.bus flow) flow
   pub other : FlowPlan
   pub other_is : flow_at v.buses.items input ≡ Some other
   pub no_nearer : (p : ℕ) → period_ms flow ≡ Some p → (q : ℕ) × (period_ms other ≡ Some q)

@@ -19,14 +19,14 @@ use Rattle.j39_vehicle_times.specs.TimeFindings.{period_ms}
 use Rattle.j39_vehicle_times.specs.Times.{direct_feeder, flow_at, forward_at, first_input_at, timing_on}
 use Rattle.j39_vehicle_times.specs.declared.bus_delays.Delays.{Delays}
 use Rattle.j39_vehicle_time_laws.specs.KeptBuses.{IsKnownBus, asked_on}
-use Rattle.j39_vehicle_time_laws.specs.Prompt.{IsDelayKnown, SendsOn, whole_vehicle}
+use Rattle.j39_vehicle_time_laws.specs.Prompt.{AreSentUnasked, IsDelayKnown, SendsOn, whole_vehicle}
 use Rattle.j39_vehicle_time_laws.specs.Seen.{SeenBuses, frames_at}
 use Rattle.j39_vehicle_time_laws.specs.ValuesArrive.{PassValuesOn}
 use Rattle.j39_vehicle_time_laws.specs.VehicleAges.{IsPromptVehicle}
 use Rattle.j39_vehicle_time_laws.specs.YoungValues.{KeepPauses}
 
 -- the direct forward at a place sends flow y of another bus for flow x, which comes from its own bus; x is heard for nothing else, and y for nothing;
--- and all units keep order
+-- all units keep order; and nothing is sent on of flows that come only as answers, nor as theirs
 pub record IsLoneForward (v : Vehicle) (delays : Delays) (n : ℕ) (forward : Forward) (x y : FlowAt) (within : ℕ) : Type 0 where
   pub sends : SendsOn v n forward x y within
   pub direct : is_direct forward ≡ true
@@ -42,6 +42,7 @@ pub record IsLoneForward (v : Vehicle) (delays : Delays) (n : ℕ) (forward : Fo
   pub only : (z : FlowAt) → feeds v z forward ≡ true → z ≡ y
   pub alone : (m : ℕ) (other : Forward) → forward_at v m ≡ Some other → feeds v y other ≡ true → m ≡ n
   pub in_order : (b : ℕ) (timing : Timing) (of_bus : IsKnownBus v delays b timing) (j : ℕ) → keep_order (planned_at (frames_asked (asked_on of_bus)) j) ≡ true
+  pub unasked : AreSentUnasked v delays
 
 -- the flow has a period, and its pause, if it has one, isn't shorter, as plan files have it
 pub record IsPacedFlow (v : Vehicle) (x : FlowAt) : Type 0 where
@@ -73,7 +74,7 @@ pub record IsTracedBy (v : Vehicle) (n : ℕ) (y : FlowAt) (p : Point) : Type 0 
 pub record CanBeSentOn (v : Vehicle) (delays : Delays) (n : ℕ) (x y : FlowAt) (before bytes : List ℕ) (by : ℕ) : Type 0 where
   pub seen : SeenBuses
   pub prompt : IsPromptVehicle v delays seen by
-  pub whole : prompt.scope ≡ whole_vehicle
+  pub whole : prompt.scope ≡ whole_vehicle v
   pub message : ℕ
   pub begun : HasBegun (frames_at v seen x) message
   pub heard : (seen x.bus).bytes message ≡ before

@@ -11,7 +11,7 @@ use Rattle.j39_vehicle.specs.declared.vehicle.forward.Mode.TheVariants.{Direct}
 use Rattle.j39_vehicle_findings.specs.declared.point.FlowAt.{FlowAt}
 use Rattle.j39_vehicle_findings.specs.declared.point.Point.{Point}
 use Rattle.j39_vehicle_times.specs.TimeFindings.{first_output}
-use Rattle.j39_vehicle_times.specs.Times.{age, flow_at, first_input_at, queued_of, timing_on}
+use Rattle.j39_vehicle_times.specs.Times.{age, askers_on, flow_at, first_input_at, latest_ms, queued_of, timing_on}
 use Rattle.j39_vehicle_times.specs.declared.bus_delays.Delays.{Delays}
 use Rattle.j39_vehicle_time_laws.specs.Seen.{longest_bit, of_us, shortest_bit}
 
@@ -31,11 +31,11 @@ abbrev pub AnswersStayAnswers : Vehicle → Type 0
 AnswersStayAnswers v = (place : ℕ) (n : Forward) (input output : FlowPlan) → GoesDirectly v place n input output → output.on_request ≡ true
     → input.on_request ≡ true
 
--- what has a deadline is queued within the jitter of its flow, behind the release at its origin, also where it goes in packets
+-- what has a deadline is queued within the jitter of its flow, or within its time to answer, behind the release at its origin, also where it goes in packets
 abbrev pub DeadlinesHaveRoom : Vehicle → Delays → Type 0
 DeadlinesHaveRoom v delays = (place : ℕ) (n : Forward) (input output : FlowPlan) (pace : Pace) (deadline : ℕ) → GoesDirectly v place n input output
     → output.pace ≡ Some pace → pace.deadline ≡ Some deadline
-    → (queued : ℕ) × (queued_of v delays n ≡ Some queued) × (queued ≤ 1000 * pace.jitter)
+    → (queued : ℕ) × (queued_of v delays n ≡ Some queued) × (queued ≤ 1000 * latest_ms (askers_on v.buses.items n.output.bus output) output)
 
 -- ---- ages
 

@@ -1,6 +1,7 @@
 -- Gateways that send on in time: directly, for each message that ends one of their own; or at their own releases, the newest that they have.
-use Rattle.std.specs.Prelude.{◌≡◌, ℕ, ◌+◌, ◌*◌, ◌<◌, ◌≤◌, Bool, true, false, Option, Some, None}
-use Rattle.std.specs.Option.{option_and_then, option_map}
+use Rattle.std.specs.Prelude.{◌≡◌, ℕ, ◌+◌, ◌*◌, ◌<◌, ◌≤◌, ◌==◌, Bool, true, false, Option, Some, None}
+use Rattle.std.specs.Option.{option_and_then, option_map, option_map_or}
+use Rattle.j39_network.specs.declared.plan.flow_plan.FlowPlan.{FlowPlan}
 use Rattle.j39_vehicle.specs.declared.vehicle.Vehicle.{Vehicle}
 use Rattle.j39_vehicle.specs.declared.vehicle.forward.Forward.{Forward}
 use Rattle.j39_vehicle_findings.specs.ForwardTests.{feeds, is_direct}
@@ -10,7 +11,7 @@ use Rattle.j39_vehicle_findings.specs.declared.point.Point.{Point}
 use Rattle.j39_gateways.specs.Gateways.{HasBegun, HasOwnReleases, IsHandedOn, IsIts, end_time, queue_time}
 use Rattle.j39_vehicle_laws.specs.Faithful.{KeepsContents}
 use Rattle.j39_vehicle_times.specs.declared.bus_delays.Delays.{Delays}
-use Rattle.j39_vehicle_times.specs.Times.{behind_at, delay_at, direct_feeder, forward_at, first_input_at, interval_us}
+use Rattle.j39_vehicle_times.specs.Times.{askers_on, behind_at, delay_at, direct_feeder, flow_at, forward_at, first_input_at, interval_us}
 use Rattle.j39_vehicle_time_laws.specs.Seen.{SeenBuses, frames_at, of_us}
 
 -- some of the buses and flows of a vehicle, of which something is asked
@@ -18,9 +19,13 @@ pub record Scope : Type 0 where
   pub buses : ℕ → Bool
   pub flows : FlowAt → Bool
 
--- all of them
-abbrev pub whole_vehicle : Scope
-whole_vehicle = record { buses = λ b. true; flows = λ at. true }
+-- no request that has a period asks for the flow, or it comes by itself too
+abbrev pub is_unasked : Vehicle → FlowAt → Bool
+is_unasked v at = option_map_or (λ (flow : FlowPlan). askers_on v.buses.items at.bus flow == 0) (flow_at v.buses.items at) true
+
+-- all of them, but for flows that come only as answers to such requests
+abbrev pub whole_vehicle : Vehicle → Scope
+whole_vehicle v = record { buses = λ b. true; flows = is_unasked v }
 
 -- its flows of a bus, by their places
 abbrev pub scope_on : Scope → ℕ → ℕ → Bool
@@ -80,10 +85,17 @@ sent_from v delays at = option_and_then (λ (bits : ℕ). option_and_then (first
 abbrev pub IsSentOn : Vehicle → Delays → FlowAt → Type 0
 IsSentOn v delays at = (from : FlowAt) × (sent_from v delays at ≡ Some from)
 
--- the bus of each of its flows is in it, and with a bus each flow that is sent on directly to this bus
+-- no flow that comes only as an answer to requests that have a period is sent on directly, nor is what is sent on one
+abbrev pub AreSentUnasked : Vehicle → Delays → Type 0
+AreSentUnasked v delays = (at from : FlowAt) → sent_from v delays at ≡ Some from → (is_unasked v at ≡ true) × (is_unasked v from ≡ true)
+
+-- the bus of each of its flows is in it, and with a bus each flow that is sent on directly to this bus; none of these, nor what they are sent on as, comes
+-- only as an answer to requests that have a period
 pub record IsScope (v : Vehicle) (delays : Delays) (scope : Scope) : Type 0 where
   pub its_bus : (at : FlowAt) → scope.flows at ≡ true → scope.buses at.bus ≡ true
   pub sources : (at from : FlowAt) → scope.buses at.bus ≡ true → sent_from v delays at ≡ Some from → scope.flows from ≡ true
+  pub unasked : (at : FlowAt) → scope.flows at ≡ true → is_unasked v at ≡ true
+  pub sent_unasked : (at from : FlowAt) → scope.buses at.bus ≡ true → sent_from v delays at ≡ Some from → is_unasked v at ≡ true
 
 -- all other flows of its buses have releases of their own bus
 abbrev pub HaveOwnReleases : Vehicle → Delays → Scope → SeenBuses → Type 0

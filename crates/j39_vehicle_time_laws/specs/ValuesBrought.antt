@@ -1,5 +1,5 @@
 -- That all that is asked of one bus can be kept at once, for as long as one likes, so that a value arrives there in time.
-use Rattle.std.specs.Prelude.{◌≡◌, ℕ, ◌≤◌, List, Some}
+use Rattle.std.specs.Prelude.{◌≡◌, ℕ, ◌≤◌, false, List, Some}
 use Rattle.std.specs.List.{slice_get}
 use Rattle.j39_id.specs.Pgn.{IsPgn}
 use Rattle.j39_network.specs.PlannedUnits.{units_of}
@@ -9,6 +9,7 @@ use Rattle.j39_network.specs.declared.plan.group_plan.GroupPlan.{GroupPlan}
 use Rattle.j39_network.specs.declared.plan.pace.Pace.{Pace}
 use Rattle.j39_network.specs.declared.plan.timing.Timing.{Timing}
 use Rattle.j39_world.specs.HeldAddresses.{ArePlannedApart}
+use Rattle.j39_load.specs.AskedFlows.{is_answering}
 use Rattle.j39_load.specs.Clocks.{IsTrueTime}
 use Rattle.j39_load.specs.KeepsPlan.{KeptBus, origins_of}
 use Rattle.j39_load.specs.ReadInTime.{AreWritten, CarryWritten}
@@ -16,7 +17,8 @@ use Rattle.j39_load.specs.SentFrames.{IsMsBefore}
 use Rattle.j39_load.specs.ValuesInTime.{KeepsPause}
 use Rattle.j39_timing.specs.FreshFrames.{HasEnded}
 
--- a flow each message of which goes in one frame, with a period and a pause that isn't shorter
+-- a flow each message of which goes in one frame, with a period and a pause that isn't shorter, and that doesn't come only as an answer to requests that
+-- have a period
 pub record IsSingleWithPause (plan : Plan) (f : ℕ) (flow : FlowPlan) (pace : Pace) (pause : ℕ) (group : GroupPlan) : Type 0 where
   pub its : slice_get plan.flows.items f ≡ Some flow
   pub paced : flow.pace ≡ Some pace
@@ -25,6 +27,7 @@ pub record IsSingleWithPause (plan : Plan) (f : ℕ) (flow : FlowPlan) (pace : P
   pub of : slice_get plan.groups.items flow.group ≡ Some group
   pub short : group.most ≤ 8
   pub number : IsPgn group.pgn
+  pub unasked : is_answering plan.requests.items flow ≡ false
 
 -- a bus that keeps to the plan, in which each frame of the flow has these bytes, which were written; by whatever clock it has, the flow keeps its
 -- pause up to this bit, by which a frame of it has ended, and it is seen for a period more

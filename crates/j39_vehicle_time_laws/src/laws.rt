@@ -16,12 +16,14 @@ ghost use Rattle.j39_vehicle_time_laws.specs.YoungValues.{AreAgesBounds};
 
 /// Each age that is known of what a flow brings over gateways bounds it, where the frames of some buses keep to their
 /// streams: of those on its way, and of those from which messages are sent on directly to such a bus (`Scope`).
+/// No flow of these may come only as an answer to requests that have a period.
 pub fn ages_are_bounds()
     ensures { (v : Vehicle) (delays : Delays) → AreAgesBounds v delays }
 {}
 
 /// What gateways send on directly keeps to the streams that the plan of its bus has for it, where jitter and periods
-/// have room for it; also where buses send on to one another.
+/// have room for it; also where buses send on to one another. Nothing is said of buses to which answers to requests that
+/// have a period are sent on, or as which something is sent on (`IsScope`).
 pub fn gateways_keep_to_plans()
     ensures { (v : Vehicle) (delays : Delays) → AreStreamsKept v delays }
 {}
@@ -59,7 +61,8 @@ pub fn direct_forwards_have_room()
 /// What is asked of what is seen of a vehicle can be kept, for as long as one likes, where a direct forward sends the
 /// messages of a flow with a period on to another bus, as messages of a flow that is sent on no further: all at once, that
 /// gateways are prompt and pass values on, and that flows keep their pauses, whatever value a message has that the
-/// forward can carry (`sent`). A copy carries any (`copies`).
+/// forward can carry (`sent`). A copy carries any (`copies`). No direct forward may send flows on that come only as answers
+/// to requests that have a period.
 pub fn a_message_is_sent_on()
     ensures sent { (v : Vehicle) (delays : Delays) → CanMessagesBeSentOn v delays }
     ensures copies { (v : Vehicle) → DoCopiesCarryValues v }

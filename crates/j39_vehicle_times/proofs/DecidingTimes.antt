@@ -1,5 +1,5 @@
 -- Each test of times decides its statement.
-use Rattle.std.proofs.Common.{◌≡◌, ℕ, ◌*◌, ◌<◌, ◌≤◌, ◌⊎◌, List, Bool, true, false, not, if◌then◌else◌, ◌&&◌, Option, Some, None, Contains, Decides}
+use Rattle.std.proofs.Common.{◌≡◌, ℕ, ◌*◌, ◌<◌, ◌≤◌, ◌⊎◌, max, List, Bool, true, false, not, if◌then◌else◌, ◌&&◌, Option, Some, None, Contains, Decides}
 use Rattle.std.proofs.Common.{refl, sym, ap, ◌∙◌, subst, inl, inr, arith}
 use Rattle.std.specs.List.{slice_get}
 use Rattle.std.specs.Option.{option_and_then, option_map, option_map_or}
@@ -26,11 +26,11 @@ use Rattle.j39_vehicle_findings.proofs.Deciding.{Decides-is_direct, it_is, need_
 use Rattle.j39_vehicle_times.specs.declared.bus_delays.Delays.{Delays}
 use Rattle.j39_vehicle_times.specs.declared.ends.Ends.{Ends}
 use Rattle.j39_vehicle_times.specs.declared.needs.NeedFlow.{NeedFlow}
-use Rattle.j39_vehicle_times.specs.TimeFindings.{IsDirectBetween, IsNearer, IsNeedTooOld, IsTooLate, IsTooOften, IsTooRare, IsUnlimited, IsKnownWithin, IsYoungFlow}
+use Rattle.j39_vehicle_times.specs.TimeFindings.{ComesTooOften, IsDirectBetween, IsNearer, MayBeMore, IsNeedTooOld, IsTooLate, IsTooOften, IsTooRare, IsUnlimited, IsKnownWithin, IsYoungFlow}
 use Rattle.j39_vehicle_times.specs.TimeFindings.{written_deadline, first_output, period_ms}
 use Rattle.j39_vehicle_times.specs.FoundTimes.{direct_ends, ends_of, flow_of_need, is_long, is_nearer, is_need_too_old, is_older, is_timed_bus, goes_to_all, is_too_late}
-use Rattle.j39_vehicle_times.specs.FoundTimes.{is_too_often, is_too_rare, is_unlimited, is_known_within, need_flow_at, need_flows_at}
-use Rattle.j39_vehicle_times.specs.Times.{age, flow_at, first_input_at, jitter_ms, queued_of, interval, longest_on, shortest_on, timing_on, us_of_ms}
+use Rattle.j39_vehicle_times.specs.FoundTimes.{is_too_often, is_too_rare, may_be_more, is_unlimited, is_known_within, need_flow_at, need_flows_at}
+use Rattle.j39_vehicle_times.specs.Times.{age, askers_on, flow_at, first_input_at, latest_ms, queued_of, interval, longest_on, shortest_on, timing_on, us_of_ms}
 use Rattle.j39_vehicle_times.proofs.Youngest.{IsLeast, youngest_among, youngest_least, youngest_some}
 use Rattle.j39_search.proofs.Deciding.{Decides-leb}
 
@@ -130,12 +130,16 @@ nearer_decides here i there f =
     some_decides (λ p. ¬ ((q : ℕ) × (period_ms i ≡ Some q) × (p * there ≤ q * here)))
     (λ p. Decides-not _ (some_decides (λ q. p * there ≤ q * here) (λ q. Decides-leb (p * there) (q * here)) (period_ms i))) (period_ms f)
 
+more_decides : (here there : ℕ) (f : FlowPlan) → Decides (may_be_more here there f) (MayBeMore here there f)
+more_decides here there f = some_decides (λ (p : ℕ). max 1 there < here) (λ p. Decides-ltb (max 1 there) here) (period_ms f)
+
 pub Decides-is_too_often : (v : Vehicle) (n : Forward) → Decides (is_too_often v n) (IsTooOften v n)
 Decides-is_too_often v n =
-    between_decides v n (λ ends. IsNearer (shortest_on v.buses.items ends.at.bus) ends.input (shortest_on v.buses.items n.output.bus) ends.output
-    ⊎ ((ends.output.on_request ≡ true) × (ends.input.on_request ≡ false)))
-    (λ ends. Decides-or _ _ (nearer_decides (shortest_on v.buses.items ends.at.bus) ends.input (shortest_on v.buses.items n.output.bus) ends.output)
+    between_decides v n (λ ends. ComesTooOften v.buses.items ends.at.bus n.output.bus ends.input ends.output)
+    (λ ends. Decides-or _ _ (Decides-or _ _
+    (nearer_decides (shortest_on v.buses.items ends.at.bus) ends.input (shortest_on v.buses.items n.output.bus) ends.output)
     (Decides-and _ _ (it_is ends.output.on_request) (not_is ends.input.on_request)))
+    (more_decides (askers_on v.buses.items ends.at.bus ends.input) (askers_on v.buses.items n.output.bus ends.output) ends.output))
 
 to_all_decides : (to : To) → Decides (goes_to_all to) (to ≡ All)
 to_all_decides All = (λ e. refl, λ e. refl)
@@ -154,9 +158,12 @@ unlimited_decides v n f =
 
 pub Decides-is_too_late : (v : Vehicle) (delays : Delays) (n : Forward) → Decides (is_too_late v delays n) (IsTooLate v delays n)
 Decides-is_too_late v delays n =
-    between_decides v n (λ ends. (¬ IsUnlimited v n ends.output) × (¬ IsKnownWithin (us_of_ms (jitter_ms ends.output)) (queued_of v delays n)))
+    between_decides v n (λ ends. (¬ IsUnlimited v n ends.output) × (¬ IsKnownWithin (us_of_ms (latest v n ends)) (queued_of v delays n)))
     (λ ends. Decides-and _ _ (Decides-not _ (unlimited_decides v n ends.output))
-    (Decides-not _ (within_decides (us_of_ms (jitter_ms ends.output)) (queued_of v delays n))))
+    (Decides-not _ (within_decides (us_of_ms (latest v n ends)) (queued_of v delays n))))
+  where
+    latest : Vehicle → Forward → Ends → ℕ
+    latest w m ends = latest_ms (askers_on w.buses.items m.output.bus ends.output) ends.output
 
 pub Decides-is_too_rare : (v : Vehicle) (n : Forward) → Decides (is_too_rare v n) (IsTooRare v n)
 Decides-is_too_rare v n =

@@ -1,5 +1,5 @@
 -- The findings of times as a list: a test for each statement, and the list of all that pass; and of the flows of a need the one that is reported.
-use Rattle.std.specs.Prelude.{ℕ, ◌*◌, List, [], ◌∷◌, ◌++◌, length, Bool, true, false, not, ◌&&◌, ◌||◌, nat_lt, nat_le, if◌then◌else◌, Option, Some, None}
+use Rattle.std.specs.Prelude.{ℕ, ◌*◌, List, [], ◌∷◌, ◌++◌, length, Bool, true, false, not, ◌&&◌, ◌||◌, nat_lt, nat_le, max, if◌then◌else◌, Option, Some, None}
 use Rattle.std.specs.List.{slice_get}
 use Rattle.std.specs.Option.{option_and_then, option_map, option_map_or}
 use Rattle.j39_search.specs.ListPlaces.{each, found_if, in_each}
@@ -9,6 +9,7 @@ use Rattle.j39_network.specs.declared.plan.timing.Timing.{Timing}
 use Rattle.j39_network.specs.declared.plan.to.To.{To}
 use Rattle.j39_network.specs.declared.plan.to.To.TheVariants.{All, One}
 use Rattle.j39_vehicle.specs.declared.vehicle.Vehicle.{Vehicle}
+use Rattle.j39_vehicle.specs.declared.vehicle.bus_plan.BusPlan.{BusPlan}
 use Rattle.j39_vehicle.specs.declared.vehicle.forward.Forward.{Forward}
 use Rattle.j39_vehicle.specs.declared.vehicle.vehicle_need.VehicleNeed.{VehicleNeed}
 use Rattle.j39_vehicle_findings.specs.Buses.{groups_on}
@@ -22,7 +23,8 @@ use Rattle.j39_vehicle_times.specs.declared.finding.TimeFinding.{TimeFinding}
 use Rattle.j39_vehicle_times.specs.declared.finding.TimeFinding.TheVariants.{TooOften, TooLate, TooRare, NeedTooOld}
 use Rattle.j39_vehicle_times.specs.declared.needs.NeedFlow.{NeedFlow}
 use Rattle.j39_vehicle_times.specs.TimeFindings.{written_deadline, first_output, period_ms}
-use Rattle.j39_vehicle_times.specs.Times.{age, flow_at, forward_at, first_input_at, jitter_ms, queued_of, interval, longest_on, shortest_on, timing_on, us_of_ms}
+use Rattle.j39_vehicle_times.specs.Times.{age, askers_on, flow_at, forward_at, first_input_at, latest_ms, queued_of, interval, longest_on, shortest_on, timing_on}
+use Rattle.j39_vehicle_times.specs.Times.{us_of_ms}
 
 abbrev pub is_known_within : ℕ → Option ℕ → Bool
 is_known_within most number = option_map_or (λ n. nat_le n most) number false
@@ -50,9 +52,16 @@ is_nearer here i there f = option_map_or (λ p. not (has_such_a_period here i (p
 abbrev pub is_more_often : ℕ → FlowPlan → ℕ → FlowPlan → Bool
 is_more_often here i there f = is_nearer here i there f || (f.on_request && not i.on_request)
 
+-- more answers of the input may come at once than are counted of the output, where so many ask for either
+abbrev pub may_be_more : ℕ → ℕ → FlowPlan → Bool
+may_be_more here there f = option_map_or (λ (p : ℕ). nat_lt (max 1 there) here) (period_ms f) false
+
+abbrev pub comes_too_often : List BusPlan → ℕ → ℕ → FlowPlan → FlowPlan → Bool
+comes_too_often buses a b i f =
+    is_more_often (shortest_on buses a) i (shortest_on buses b) f || may_be_more (askers_on buses a i) (askers_on buses b f) f
+
 abbrev pub is_too_often : Vehicle → Forward → Bool
-is_too_often v n = option_map_or (λ (ends : Ends).
-    is_more_often (shortest_on v.buses.items ends.at.bus) ends.input (shortest_on v.buses.items n.output.bus) ends.output) (direct_ends v n) false
+is_too_often v n = option_map_or (λ (ends : Ends). comes_too_often v.buses.items ends.at.bus n.output.bus ends.input ends.output) (direct_ends v n) false
 
 abbrev pub goes_to_all : To → Bool
 goes_to_all All = true
@@ -77,7 +86,8 @@ abbrev pub is_late_asked : Vehicle → ℕ → Bool
 is_late_asked v n = option_map_or (is_late_asked_of v) (forward_at v n) false
 
 abbrev pub is_later : Vehicle → Delays → Forward → FlowPlan → Bool
-is_later v delays n f = is_asked v n f && not (is_known_within (us_of_ms (jitter_ms f)) (queued_of v delays n))
+is_later v delays n f =
+    is_asked v n f && not (is_known_within (us_of_ms (latest_ms (askers_on v.buses.items n.output.bus f) f)) (queued_of v delays n))
 
 abbrev pub is_too_late : Vehicle → Delays → Forward → Bool
 is_too_late v delays n = option_map_or (λ (ends : Ends). is_later v delays n ends.output) (direct_ends v n) false

@@ -1,6 +1,6 @@
 -- What can be wrong with the times of what a vehicle's gateways send on: each finding as a plain statement on its forwards and needs, by their
 -- places from 0.
-use Rattle.std.specs.Prelude.{◌≡◌, ℕ, ◌*◌, ◌<◌, ◌≤◌, ◌⊎◌, List, [], ◌∷◌, Option, Some, None, true, false, Contains, AllPairs}
+use Rattle.std.specs.Prelude.{◌≡◌, ℕ, ◌*◌, ◌<◌, ◌≤◌, ◌⊎◌, max, List, [], ◌∷◌, Option, Some, None, true, false, Contains, AllPairs}
 use Rattle.std.specs.List.{slice_get, position}
 use Rattle.std.specs.Option.{option_and_then, option_map}
 use Rattle.j39_search.specs.ListPlaces.{ValueAt}
@@ -10,6 +10,7 @@ use Rattle.j39_network.specs.declared.plan.group_plan.GroupPlan.{GroupPlan}
 use Rattle.j39_network.specs.declared.plan.pace.Pace.{Pace}
 use Rattle.j39_network.specs.declared.plan.to.To.TheVariants.{All}
 use Rattle.j39_vehicle.specs.declared.vehicle.Vehicle.{Vehicle}
+use Rattle.j39_vehicle.specs.declared.vehicle.bus_plan.BusPlan.{BusPlan}
 use Rattle.j39_vehicle.specs.declared.vehicle.forward.Forward.{Forward}
 use Rattle.j39_vehicle.specs.declared.vehicle.vehicle_need.VehicleNeed.{VehicleNeed}
 use Rattle.j39_vehicle_findings.specs.Buses.{groups_on}
@@ -20,7 +21,7 @@ use Rattle.j39_vehicle_times.specs.declared.bus_delays.Delays.{Delays}
 use Rattle.j39_vehicle_times.specs.declared.ends.Ends.{Ends}
 use Rattle.j39_vehicle_times.specs.declared.finding.TimeFinding.{TimeFinding}
 use Rattle.j39_vehicle_times.specs.declared.finding.TimeFinding.TheVariants.{TooOften, TooLate, TooRare, NeedTooOld}
-use Rattle.j39_vehicle_times.specs.Times.{age, flow_at, first_input_at, jitter_ms, queued_of, interval, longest_on, shortest_on, timing_on, us_of_ms}
+use Rattle.j39_vehicle_times.specs.Times.{age, askers_on, flow_at, first_input_at, latest_ms, queued_of, interval, longest_on, shortest_on, timing_on, us_of_ms}
 
 -- a number is known, and at most so large
 abbrev pub IsKnownWithin : ℕ → Option ℕ → Type 0
@@ -49,10 +50,17 @@ period_ms flow = option_map (λ (pace : Pace). pace.period) flow.pace
 abbrev pub IsNearer : ℕ → FlowPlan → ℕ → FlowPlan → Type 0
 IsNearer here i there f = (p : ℕ) × (period_ms f ≡ Some p) × (¬ ((q : ℕ) × (period_ms i ≡ Some q) × (p * there ≤ q * here)))
 
--- so it is, or these are sent only where they are asked for, and those aren't
+-- the output has a period, and more answers of the input may come at once than are counted of it, where so many requests ask for either
+abbrev pub MayBeMore : ℕ → ℕ → FlowPlan → Type 0
+MayBeMore here there f = (p : ℕ) × (period_ms f ≡ Some p) × (max 1 there < here)
+
+-- the input's messages come nearer to one another, or several at once, or these are sent only where they are asked for, and those aren't
+abbrev pub ComesTooOften : List BusPlan → ℕ → ℕ → FlowPlan → FlowPlan → Type 0
+ComesTooOften buses a b i f = (IsNearer (shortest_on buses a) i (shortest_on buses b) f ⊎ ((f.on_request ≡ true) × (i.on_request ≡ false)))
+    ⊎ MayBeMore (askers_on buses a i) (askers_on buses b f) f
+
 abbrev pub IsTooOften : Vehicle → Forward → Type 0
-IsTooOften v n = IsDirectBetween v n (λ ends.
-    IsNearer (shortest_on v.buses.items ends.at.bus) ends.input (shortest_on v.buses.items n.output.bus) ends.output ⊎ ((ends.output.on_request ≡ true) × (ends.input.on_request ≡ false)))
+IsTooOften v n = IsDirectBetween v n (λ ends. ComesTooOften v.buses.items ends.at.bus n.output.bus ends.input ends.output)
 
 abbrev pub written_deadline : FlowPlan → Option ℕ
 written_deadline flow = option_and_then (λ (pace : Pace). pace.deadline) flow.pace
@@ -63,10 +71,10 @@ pub record IsUnlimited (v : Vehicle) (n : Forward) (f : FlowPlan) : Type 0 where
   pub limit : written_deadline f ≡ None
   pub long : ValueAt (λ (group : GroupPlan). 8 < group.length) (groups_on v.buses.items n.output.bus) f.group
 
--- of any other the forward has to queue each message within the jitter
+-- of any other the forward has to queue each message within the jitter, or within the time to answer
 abbrev pub IsTooLate : Vehicle → Delays → Forward → Type 0
-IsTooLate v delays n = IsDirectBetween v n (λ ends.
-    (¬ IsUnlimited v n ends.output) × (¬ IsKnownWithin (us_of_ms (jitter_ms ends.output)) (queued_of v delays n)))
+IsTooLate v delays n = IsDirectBetween v n (λ ends. (¬ IsUnlimited v n ends.output)
+    × (¬ IsKnownWithin (us_of_ms (latest_ms (askers_on v.buses.items n.output.bus ends.output) ends.output)) (queued_of v delays n)))
 
 -- a message of the output has its release in each of its pauses, and none of the input need have: both by the slowest clocks
 abbrev pub IsTooRare : Vehicle → Forward → Type 0

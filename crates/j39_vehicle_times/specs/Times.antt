@@ -1,12 +1,13 @@
 -- How long what gateways send on takes, and how old values are that it brings, in microseconds of true time (data age: AUTOSAR Timing
 -- Extensions). What misses a part, or has no end, is unknown; and so is all of a flow of a bus of whose timing nothing is known.
-use Rattle.std.specs.Prelude.{ℕ, zero, suc, ◌+◌, ◌-◌, ◌*◌, List, length, if◌then◌else◌, ◌&&◌, Option, Some, None}
+use Rattle.std.specs.Prelude.{ℕ, zero, suc, ◌+◌, ◌-◌, ◌*◌, List, length, if◌then◌else◌, ◌&&◌, ◌==◌, Option, Some, None}
 use Rattle.std.specs.Int.{div_ceil}
 use Rattle.std.specs.List.{slice_get, position}
 use Rattle.std.specs.Option.{option_and_then, option_map, option_map_or}
 use Rattle.j39_network.specs.declared.plan.flow_plan.FlowPlan.{FlowPlan}
 use Rattle.j39_network.specs.declared.plan.pace.Pace.{Pace}
 use Rattle.j39_network.specs.declared.plan.timing.Timing.{Timing}
+use Rattle.j39_load.specs.AnswerStreams.{answered_within, askers_of}
 use Rattle.j39_load.specs.BusTimes.{timing_of}
 use Rattle.j39_load.specs.Clocks.{longest_million, million, shortest_million}
 use Rattle.j39_load.specs.Loads.{bits_at_most, us_of_bits}
@@ -57,6 +58,14 @@ timed v at f = option_and_then (λ timing. option_and_then (f timing) (flow_at v
 abbrev pub jitter_ms : FlowPlan → ℕ
 jitter_ms flow = option_map_or (λ (pace : Pace). pace.jitter) flow.pace 0
 
+-- how many requests that have a period ask for a flow of the bus at a place that comes only as an answer
+abbrev pub askers_on : List BusPlan → ℕ → FlowPlan → ℕ
+askers_on buses b flow = option_map_or (λ (bus : BusPlan). askers_of bus.plan.requests.items flow) (slice_get buses b) 0
+
+-- within so many milliseconds of its moment a message is queued, where so many ask for its flow: the moment of an answer is that of its request
+abbrev pub latest_ms : ℕ → FlowPlan → ℕ
+latest_ms askers flow = if askers == 0 then jitter_ms flow else option_map_or answered_within flow.pace 0
+
 -- a delay in bits, where it is reported so
 abbrev pub bits_within : Option Delay → Option ℕ
 bits_within (Some (Within bits)) = Some bits
@@ -90,9 +99,13 @@ within_of n = option_map us_of_ms n.within
 
 -- ---- from the release of a message until it has ended
 
--- of a flow that has releases of its own
+-- where its delay has so many bits, which count from its release: an answer's moment lies before this
+abbrev pub behind_of : Timing → ℕ → FlowPlan → ℕ → ℕ
+behind_of timing askers flow delay = us_of_bits timing (delay + (bits_at_most timing (latest_ms askers flow) - bits_at_most timing (jitter_ms flow)))
+
+-- of a flow that has moments of its own
 abbrev pub behind_release : Vehicle → Delays → FlowAt → Option ℕ
-behind_release v delays at = timed v at (λ timing flow. option_map (us_of_bits timing) (delay_at delays at))
+behind_release v delays at = timed v at (λ timing flow. option_map (behind_of timing (askers_on v.buses.items at.bus flow) flow) (delay_at delays at))
 
 -- until a forward has queued what it sends, where that which it heard took so long
 abbrev pub queued_behind : Vehicle → Forward → (FlowAt → Option ℕ) → Option ℕ

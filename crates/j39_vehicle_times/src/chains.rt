@@ -1,19 +1,31 @@
 //! How long what comes along direct forwards takes, and how often it comes.
 ghost use Rattle.std.specs.Prelude.{◌≡◌, ◌<◌, ◌≤◌, ◌^◌, Some, IfSome};
-ghost use Rattle.j39_vehicle_times.specs.Times.{behind_at, behind_by, behind_release, own, queued, queued_of, interval};
+ghost use Rattle.j39_vehicle_times.specs.Times.{behind_at, behind_by, behind_of, behind_release, own, queued, queued_of, interval};
 ghost use Rattle.j39_vehicle_times.specs.Times.{interval_by, interval_us, sum_known, unasked_at, within_of};
 ghost use Rattle.j39_vehicle_times.specs.inside.Chains.{hop_by};
 
 use crate::bus_delays::{Delays, delay_at};
+use crate::clocks::bits_at_most;
 use crate::flows::{
-    direct_place, flow_at, input_at, input_by, own, pause_on, timing_on, within_of,
+    askers_on, direct_place, flow_at, input_at, input_by, jitter_of, latest_of, own, pause_on, timing_on, within_of,
 };
 use j39_load::us_of_bits;
-use j39_network::FlowPlan;
+use j39_network::{FlowPlan, Timing};
 use j39_vehicle::{Forward, Vehicle};
 use j39_vehicle_findings::{FlowAt, Routes};
 
-// How long a message of the flow takes from its release until it has ended, if no direct forward feeds it.
+// How long behind its moment it has ended, where its delay has so many bits: an answer's moment lies before its release.
+fn behind_of(timing: Timing, askers: u16, flow: &FlowPlan, delay: u32) -> u64
+    ensures value { result ≡ behind_of timing askers flow.now delay }
+    ensures few { result < 2 ^ 36 }
+{
+    let latest = bits_at_most(timing, latest_of(askers, flow));
+    let jitter = bits_at_most(timing, jitter_of(flow));
+    let earlier = latest.saturating_sub(jitter);
+    us_of_bits(timing, u64::from(delay) + earlier) as u64
+}
+
+// How long a message of the flow takes from its moment until it has ended, if no direct forward feeds it.
 fn behind_release(vehicle: &Vehicle, delays: &Delays, at: FlowAt) -> Option<u64>
     ensures value { result ≡ behind_release vehicle.now delays.now at }
     ensures few { IfSome result (λ behind_at. behind_at < 2 ^ 36) }
@@ -21,11 +33,12 @@ fn behind_release(vehicle: &Vehicle, delays: &Delays, at: FlowAt) -> Option<u64>
     let Some(timing) = timing_on(&vehicle.buses, at.bus) else {
         return None;
     };
-    let Some(_flow) = flow_at(&vehicle.buses, at) else {
+    let Some(flow) = flow_at(&vehicle.buses, at) else {
         return None;
     };
+    let askers = askers_on(&vehicle.buses, at.bus, flow);
     match delay_at(delays, at) {
-        Some(delay) => Some(us_of_bits(timing, u64::from(delay)) as u64),
+        Some(delay) => Some(behind_of(timing, askers, flow, delay)),
         None => None,
     }
 }

@@ -1,5 +1,5 @@
 //! How far the clocks of a bus may be from true time.
-ghost use Rattle.std.specs.Prelude.{◌≡◌, ◌<◌, ◌≤◌};
+ghost use Rattle.std.specs.Prelude.{◌≡◌, ◌*◌, ◌<◌, ◌≤◌};
 ghost use Rattle.j39_load.specs.Clocks.{longest_million, shortest_million};
 ghost use Rattle.j39_load.specs.Loads.{bits_at_most};
 ghost use Rattle.j39_vehicle_times.specs.Times.{longest_on, shortest_on};
@@ -29,8 +29,10 @@ fn shortest_million(timing: Timing) -> u32
 }
 
 /// How many bits of the bus lie in so many milliseconds of a unit's clock at most.
+#[tactic(auto, using(crate::proofs::Nanoseconds::few_bits))]
 pub fn bits_at_most(timing: Timing, ms: u16) -> u64
-    ensures { result ≡ bits_at_most timing ms }
+    ensures value { result ≡ bits_at_most timing ms }
+    ensures few { result ≤ 1050 * ms }
 {
     let bits = u64::from(bits_of_ms(timing, ms));
     (bits * u64::from(longest_million(timing))).div_ceil(u64::from(shortest_million(timing)))

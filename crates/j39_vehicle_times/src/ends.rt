@@ -8,13 +8,13 @@ ghost use Rattle.j39_vehicle_findings.specs.ForwardEnds.{output_flows};
 ghost use Rattle.j39_vehicle_times.specs.TimeFindings.{first_output, period_ms};
 ghost use Rattle.j39_vehicle_times.specs.FoundTimes.{direct_ends, ends_of, has_deadline, has_such_a_period, is_asked};
 ghost use Rattle.j39_vehicle_times.specs.FoundTimes.{is_late_asked, is_late_asked_of, is_later, is_long, is_more_often};
-ghost use Rattle.j39_vehicle_times.specs.FoundTimes.{is_nearer, is_rarer, is_timed_bus, goes_to_all, is_too_late, is_too_often};
+ghost use Rattle.j39_vehicle_times.specs.FoundTimes.{comes_too_often, is_nearer, is_rarer, may_be_more, is_timed_bus, goes_to_all, is_too_late, is_too_often};
 ghost use Rattle.j39_vehicle_times.specs.FoundTimes.{is_too_rare, is_unlimited, is_known_within};
 
 use crate::bus_delays::Delays;
 use crate::chains::{interval, queued_of};
 use crate::clocks::{longest_on, shortest_on};
-use crate::flows::{flow_at, input_at, jitter_of, timing_on, us_of_ms};
+use crate::flows::{askers_on, flow_at, input_at, latest_of, timing_on, us_of_ms};
 use j39_network::{FlowPlan, To};
 use j39_vehicle::{Forward, GroupAt, Vehicle};
 use j39_vehicle_findings::{FlowAt, Routes, group_at, is_direct, is_output, output_flows};
@@ -120,6 +120,30 @@ fn is_nearer(here: u32, input: &FlowPlan, there: u32, output: &FlowPlan) -> bool
     }
 }
 
+// Whether the output has a period, and more answers of the input may come at once than are counted of it, where so many ask
+// for either.
+fn may_be_more(here: u16, there: u16, output: &FlowPlan) -> bool
+    ensures { result ≡ may_be_more here there output.now }
+{
+    match period_of(output) {
+        Some(_period) => there.max(1) < here,
+        None => false,
+    }
+}
+
+// Whether messages of the input on one bus may come more often, or more of them at once, than those of the output on
+// another one may be sent.
+fn comes_too_often(vehicle: &Vehicle, ends: &Ends, there: usize) -> bool
+    ensures { result ≡ comes_too_often vehicle.now.buses.items ends.now.at.bus there ends.now.input ends.now.output }
+{
+    let buses = &vehicle.buses;
+    let asking = askers_on(buses, ends.at.bus, &ends.input);
+    let counted = askers_on(buses, there, &ends.output);
+    let here = shortest_on(buses, ends.at.bus);
+    let shortest = shortest_on(buses, there);
+    is_more_often(here, &ends.input, shortest, &ends.output) || may_be_more(asking, counted, &ends.output)
+}
+
 // Whether the input's messages may come more often than those of the output may be sent.
 fn is_more_often(here: u32, input: &FlowPlan, there: u32, output: &FlowPlan) -> bool
     ensures { result ≡ is_more_often here input.now there output.now }
@@ -134,9 +158,7 @@ pub fn is_too_often(vehicle: &Vehicle, forward: &Forward) -> bool
     let Some(ends) = direct_ends(vehicle, forward) else {
         return false;
     };
-    let here = shortest_on(&vehicle.buses, ends.at.bus);
-    let there = shortest_on(&vehicle.buses, forward.output.bus);
-    is_more_often(here, &ends.input, there, &ends.output)
+    comes_too_often(vehicle, &ends, forward.output.bus)
 }
 
 fn has_deadline(flow: &FlowPlan) -> bool
@@ -209,9 +231,10 @@ pub fn is_late_asked(vehicle: &Vehicle, forward: usize) -> bool
 fn is_later(routes: &Routes<'_>, delays: &Delays, forward: &Forward, output: &FlowPlan) -> bool
     ensures { result ≡ is_later routes.now.vehicle.now delays.now forward.now output.now }
 {
-    let jitter = us_of_ms(jitter_of(output));
+    let askers = askers_on(&routes.vehicle.buses, forward.output.bus, output);
+    let latest = us_of_ms(latest_of(askers, output));
     is_asked(routes.vehicle, forward, output)
-        && !is_within(jitter, queued_of(routes, delays, forward))
+        && !is_within(latest, queued_of(routes, delays, forward))
 }
 
 /// Whether it is, and isn't shown that it does.

@@ -2,13 +2,13 @@
 ghost use Rattle.std.specs.Prelude.{◌≡◌, ◌≤◌, ◌<◌, ◌*◌, ◌^◌, IfSome};
 ghost use Rattle.std.specs.List.{find};
 ghost use Rattle.std.specs.Option.{option_copied};
-ghost use Rattle.j39_vehicle_times.specs.Times.{flow_at, first_input_at, jitter_ms, own, own_of, pause_ns, pause_on, timed};
+ghost use Rattle.j39_vehicle_times.specs.Times.{askers_on, flow_at, first_input_at, jitter_ms, latest_ms, own, own_of, pause_ns, pause_on, timed};
 ghost use Rattle.j39_vehicle_times.specs.Times.{timing_on, us_of_ms, within_of};
 ghost use Rattle.j39_vehicle_times.specs.inside.Chains.{direct_place, input_by, is_direct_at};
 
 use crate::bus_delays::{Delays, delay_at};
 use crate::clocks::{bits_at_most, longest_million};
-use j39_load::{timing_of, us_of_bits};
+use j39_load::{answered_within, askers_of, timing_of, us_of_bits};
 use j39_network::{FlowPlan, Timing};
 use j39_vehicle::{BusPlan, Forward, Vehicle};
 use j39_vehicle_findings::{FlowAt, Routes, first_input, flows_on, is_direct};
@@ -27,6 +27,29 @@ pub fn jitter_of(flow: &FlowPlan) -> u16
 {
     match flow.pace {
         Some(pace) => pace.jitter,
+        None => 0,
+    }
+}
+
+/// How many requests that have a period ask for a flow of the bus at a place that comes only as an answer.
+pub fn askers_on(buses: &[BusPlan], bus: usize, flow: &FlowPlan) -> u16
+    ensures { result ≡ askers_on buses.now bus flow.now }
+{
+    match buses.get(bus) {
+        Some(bus) => askers_of(bus.plan.requests.as_slice(), flow),
+        None => 0,
+    }
+}
+
+/// Within how many milliseconds of its moment a message is queued, where so many ask for its flow.
+pub fn latest_of(askers: u16, flow: &FlowPlan) -> u16
+    ensures { result ≡ latest_ms askers flow.now }
+{
+    if askers == 0 {
+        return jitter_of(flow);
+    }
+    match flow.pace {
+        Some(pace) => answered_within(pace),
         None => 0,
     }
 }

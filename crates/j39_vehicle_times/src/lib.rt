@@ -17,6 +17,6 @@ pub use chains::queued;
 pub use checking::{TimeFindings, find_in_times};
 pub use ends::{first_output, is_late_asked};
 pub use finding::TimeFinding;
-pub use flows::{jitter_of, us_of_ms};
+pub use flows::{askers_on, latest_of, us_of_ms};
 pub use laws::time_findings_are_exact;
 pub use needs::{NeedFlow, flow_of_need, need_flow_count};

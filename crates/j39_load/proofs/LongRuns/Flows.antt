@@ -1,34 +1,49 @@
 -- What is queued of a flow or a request in a long time.
-use Rattle.std.proofs.Common.{◌≡◌, ℕ, ◌+◌, ◌*◌, ◌<◌, ◌≤◌, Bool, true}
-use Rattle.std.proofs.Common.{get_or, Option, Some, None}
+use Rattle.std.proofs.Common.{◌≡◌, ℕ, zero, suc, ◌+◌, ◌*◌, ◌<◌, ◌≤◌, Bool, true}
+use Rattle.std.proofs.Common.{get_or, if◌then◌else◌, Option, Some, None}
 use Rattle.std.proofs.Common.{refl, sym, ap, ◌∙◌, subst, inl, inr, arith}
-use Rattle.std.proofs.lemmas.Bool.{cases_lt}
-use Rattle.std.proofs.lemmas.Option.{get_or_from_slice_get}
+use Rattle.std.proofs.lemmas.Bool.{cases_lt, le-leb, lt-leb}
+use Rattle.std.proofs.lemmas.Option.{get_or_from_slice_get, none-some, same_Some}
 use Rattle.std.specs.Option.{option_map_or}
 use Rattle.j39_findings.specs.Findings.{Clean}
 use Rattle.j39_findings.specs.Standing.{DecidesWhoStays}
 use Rattle.j39_network.specs.declared.plan.Plan.{Plan}
+use Rattle.j39_network.specs.declared.plan.pace.Pace.{Pace}
 use Rattle.j39_network.specs.declared.plan.timing.Timing.{Timing}
+use Rattle.j39_network.specs.declared.plan.to.To.{To}
 use Rattle.j39_network.specs.declared.plan.unit_plan.UnitPlan.{UnitPlan}
 use Rattle.j39_load.specs.declared.frames.flow_frames.FlowFrames.{FlowFrames}
-use Rattle.j39_load.specs.declared.frames.messages.Messages.{Messages}
+use Rattle.j39_load.specs.declared.frames.messages.Messages.TheVariants.{Short}
 use Rattle.j39_load.specs.declared.loads.flow_load.FlowLoad.{FlowLoad}
 use Rattle.j39_load.specs.declared.loads.request_load.RequestLoad.{RequestLoad}
+use Rattle.j39_load.specs.AnswerStreams.{answers_want, askers_of, frames_for}
 use Rattle.j39_load.specs.Asked.{frames_asked}
 use Rattle.j39_load.specs.KeepsPlan.{KeepsToPlan, source_place}
-use Rattle.j39_load.specs.Loads.{bits_at_least, bits_of_ms, load_of, load_of_messages}
+use Rattle.j39_load.specs.Loads.{bits_at_least, bits_of_ms, load_of, load_of_messages, long_messages, packet_frames, single_frames}
 use Rattle.j39_load.specs.LongRuns.{seconds}
 use Rattle.j39_load.specs.PlannedFrames.{planned_at}
 use Rattle.j39_load.specs.SentFrames.{FrameSources, Held, IsRequestFrame, IsSessionFrame, IsSingleFrame, Source, Single, First, InSession, Asking, Announcing, Carrying}
 use Rattle.j39_load.proofs.KeepingPlan.{there}
 use Rattle.j39_load.proofs.LongRuns.Rates.{IsRate, load_is_rate}
 use Rattle.j39_load.proofs.Milliseconds.{some_bits}
-use Rattle.j39_load.proofs.PlacedFrames.{asked, at_place, in_request, in_session, load, of_one_frame, own, request_asks, request_at, request_frames_read}
-use Rattle.j39_load.proofs.PlacedFrames.{session_read, to_one}
+use Rattle.j39_load.proofs.PlacedFrames.{asked, at_place, in_request, in_session, load, own, request_asks, request_at, request_frames_read}
+use Rattle.j39_load.proofs.PlacedFrames.{session_read}
 use Rattle.j39_load.proofs.StreamsBefore.{with_damage}
 use Rattle.j39_timing.specs.TimedFrames.{Schedule}
-use Rattle.j39_timing.specs.Waits.{IsSpaced}
-use Rattle.j39_load.proofs.LongRuns.Frames.{Counts, at_rate, bits_at, frame_of, index, kind, more_at, some_counts, whole}
+use Rattle.j39_timing.specs.declared.wants.Want.{Want}
+use Rattle.j39_timing.proofs.Demands.{spaced_unwanted}
+use Rattle.j39_tp.specs.Chunks.{packets_of}
+use Rattle.j39_load.proofs.LongRuns.Frames.{Counts, IsAskedAlike, at_rate, bits_at, frame_of, index, kind, more_at, some_counts, whole}
+
+-- as many messages of a flow are asked for as its pace has
+asked_alike : (timing : Timing) (pace : Pace) (frames : FlowFrames) (k : ℕ) → frames.stream.wanted ≡ None → frames.stream.period ≡ bits_at_least timing pace.period
+    → IsAskedAlike (frames_for timing pace k frames).stream
+asked_alike timing pace frames zero none period want is = absurd (none-some want (sym (spaced_unwanted (frames_for timing pace 0 frames).stream none) ∙ is))
+asked_alike timing pace frames (suc more) none period want is =
+    let same : answers_want timing pace frames.stream.frames more ≡ want = same_Some (answers_want timing pace frames.stream.frames more) want is in (
+      sym (ap (λ (w : Want). w.frames) same),
+      sym (ap (λ (w : Want). w.period) same) ∙ sym period,
+    )
 
 module _ (plan : Plan) (timing : Timing) (stays : UnitPlan → Bool) where
   abbrev pub rate_of_flow : Option FlowLoad → ℕ
@@ -75,14 +90,14 @@ module _ (plan : Plan) (timing : Timing) (stays : UnitPlan → Bool) (states : D
       Rated = bits 0 i ≤ n * rate_of_flow plan timing stays (get_or (asked plan timing stays).flows i None) + more_at plan timing stays i
 
       of_frames : (frames : FlowFrames) (ms : ℕ) (load : FlowLoad) → planned_at (whole plan timing stays) i ≡ frames → 1 ≤ ms
-          → frames.stream.period ≡ bits_at_least timing ms → IsSpaced frames.stream → load.bits_per_second ≡ load_of timing frames.stream ms
+          → frames.stream.period ≡ bits_at_least timing ms → IsAskedAlike frames.stream → load.bits_per_second ≡ load_of timing frames.stream ms
           → get_or (asked plan timing stays).flows i None ≡ Some load → Rated
-      of_frames frames ms load there some period spaced rate its =
+      of_frames frames ms load there some period alike rate its =
           let positive_period : 0 < frames.stream.period = (let bits = some_bits timing ms some in omega (arith, bits, period)) in
           at_rate plan timing stays states clean s queued_first planned sent held keeps from wait n span agree 0 i i
           (rate_of_flow plan timing stays (get_or (asked plan timing stays).flows i None)) one_place
           (subst (λ (f : FlowFrames). 0 < f.stream.period) (sym there) positive_period)
-          (subst (λ (f : FlowFrames). IsSpaced f.stream) (sym there) spaced)
+          (subst (λ (f : FlowFrames). IsAskedAlike f.stream) (sym there) alike)
           (subst (λ (f : FlowFrames). IsRate timing (f.stream.frames * f.stream.bits) f.stream.period
           (rate_of_flow plan timing stays (get_or (asked plan timing stays).flows i None)))
           (sym there)
@@ -96,9 +111,10 @@ module _ (plan : Plan) (timing : Timing) (stays : UnitPlan → Bool) (states : D
           let asks = load plan timing stays i one.flow one.pace one.group one.its one.paced one.of in
           let frames = own plan timing stays i one.flow one.pace one.group one.its one.paced one.of in
           of_frames frames one.pace.period asks
-          (there plan timing stays states clean s queued_first planned sent held keeps i (sent.release p) p one) one.pace.period_positive refl refl
-          (ap (λ (m : Messages). load_of_messages timing m one.pace.period)
-          (of_one_frame plan timing stays i one.flow one.pace one.group one.its one.paced one.of one.short))
+          (there plan timing stays states clean s queued_first planned sent held keeps i (sent.release p) p one) one.pace.period_positive refl
+          (asked_alike timing one.pace (single_frames timing plan.units.items stays one.flow one.pace one.group) (askers_of plan.requests.items one.flow) refl refl)
+          (ap (λ (b : Bool). load_of_messages timing (if b then Short (single_frames timing plan.units.items stays one.flow one.pace one.group)
+          else long_messages timing plan.units.items stays one.flow one.pace one.group one.flow.to) one.pace.period) (le-leb one.group.most 8 one.short))
           (get_or_from_slice_get (asked plan timing stays).flows i (Some asks) None
           (at_place plan timing stays i one.flow one.pace one.group one.its one.paced one.of))
       rated p in_p is (First f) at of_kind place = absurd (omega (arith, of_kind))
@@ -109,9 +125,12 @@ module _ (plan : Plan) (timing : Timing) (stays : UnitPlan → Bool) (states : D
           let frames = in_session plan timing stays i one.flow one.pace one.group one.its one.paced one.of one.receiver in
           of_frames frames one.pace.period asks
           (with_damage timing (frames_asked (asked plan timing stays)) i frames
-          (session_read plan timing stays i one.flow one.pace one.group one.its one.paced one.of one.receiver one.long one.to_one)) one.pace.period_positive refl refl
-          (ap (λ (m : Messages). load_of_messages timing m one.pace.period)
-          (to_one plan timing stays i one.flow one.pace one.group one.its one.paced one.of one.receiver one.long one.to_one))
+          (session_read plan timing stays i one.flow one.pace one.group one.its one.paced one.of one.receiver one.long one.to_one)) one.pace.period_positive refl
+          (asked_alike timing one.pace (packet_frames timing plan.units.items stays one.flow one.receiver one.pace (packets_of one.group.most))
+          (askers_of plan.requests.items one.flow) refl refl)
+          (ap (λ (b : Bool). load_of_messages timing (if b then Short (single_frames timing plan.units.items stays one.flow one.pace one.group)
+          else long_messages timing plan.units.items stays one.flow one.pace one.group one.flow.to) one.pace.period) (lt-leb one.group.most 8 one.long)
+          ∙ ap (λ (to : To). load_of_messages timing (long_messages timing plan.units.items stays one.flow one.pace one.group to) one.pace.period) one.to_one)
           (get_or_from_slice_get (asked plan timing stays).flows i (Some asks) None
           (at_place plan timing stays i one.flow one.pace one.group one.its one.paced one.of))
       rated p in_p is (Asking r) at of_kind place = absurd (omega (arith, of_kind))
@@ -164,7 +183,7 @@ module _ (plan : Plan) (timing : Timing) (stays : UnitPlan → Bool) (states : D
           (request_frames_read plan timing stays r one.asked one.ms one.its one.paced) in
           at_rate plan timing stays states clean s queued_first planned sent held keeps from wait n span agree 1 r (request_place r) rate one_place
           (subst (λ (f : FlowFrames). 0 < f.stream.period) (sym at_its_place) (some_bits timing one.ms some))
-          (subst (λ (f : FlowFrames). IsSpaced f.stream) (sym at_its_place) refl)
+          (subst (λ (f : FlowFrames). IsAskedAlike f.stream) (sym at_its_place) (λ want is. absurd (none-some want is)))
           (subst (λ (f : FlowFrames). IsRate timing (f.stream.frames * f.stream.bits) f.stream.period rate) (sym at_its_place)
           (subst (λ (x : ℕ). IsRate timing (frames.stream.frames * frames.stream.bits) frames.stream.period x)
           (sym (ap (rate_of_request plan timing stays) its))

@@ -1,6 +1,6 @@
 -- Frames that are queued in a long time on a bus that keeps to a plan, by what they are of.
 use Rattle.std.proofs.Common.{◌≡◌, ℕ, ◌+◌, ◌*◌, ◌<◌, ◌≤◌, Bool, true, false, not, cond, ◌&&◌, eqb, leb, ltb}
-use Rattle.std.proofs.Common.{List, Option}
+use Rattle.std.proofs.Common.{List, None, Option, Some}
 use Rattle.std.proofs.Common.{refl, sym, subst, inl, inr, arith}
 use Rattle.std.proofs.lemmas.Bool.{and_from, and_parts, both_ways, cases_lt, eqb-true, false≢true, le-leb, lt-ltb, ltb-true}
 use Rattle.j39_findings.specs.Findings.{Clean}
@@ -18,8 +18,8 @@ use Rattle.j39_load.specs.Clocks.{bit_time}
 use Rattle.j39_load.specs.SentFrames.{Broadcasts, FrameSources, Held, IsFrameOf, Source, Single, First, InSession, Asking, Announcing, Carrying}
 use Rattle.j39_load.proofs.QueueGroupFrames.{positive as positive_at}
 use Rattle.j39_load.proofs.KeepingPlan.{as_wanted, of_streams}
-use Rattle.j39_load.proofs.LongRuns.Rates.{IsRate, stream_rate}
-use Rattle.j39_load.proofs.LongRuns.Streams.{more_bits, one_stream}
+use Rattle.j39_load.proofs.LongRuns.Rates.{IsRate, asked_rate, stream_rate}
+use Rattle.j39_load.proofs.LongRuns.Streams.{later_want, more_bits, more_wanted, one_stream}
 use Rattle.j39_load.proofs.Milliseconds.{window_bits}
 use Rattle.j39_load.proofs.PlacedFrames.{all, asked}
 use Rattle.j39_load.proofs.PlacedFrames.{traffic}
@@ -27,10 +27,11 @@ use Rattle.j39_load.proofs.PositivePeriods.{all_paced}
 use Rattle.j39_load.proofs.Sending.{all_sent}
 use Rattle.j39_timing.specs.Sums.{total}
 use Rattle.j39_timing.specs.TimedFrames.{Schedule}
-use Rattle.j39_timing.specs.Waits.{Demand, IsSpaced, lesser_share, share}
+use Rattle.j39_timing.specs.Waits.{Demand, asked_share, askers_want, demand_of, lesser_share, share, wanted_share}
+use Rattle.j39_timing.specs.declared.wants.Want.{Want}
 use Rattle.j39_timing.specs.declared.stream.Stream.{Stream}
 use Rattle.j39_timing.proofs.AskedFrames.{found}
-use Rattle.j39_timing.proofs.Demands.{spaced-most}
+use Rattle.j39_timing.proofs.Demands.{lesser-most}
 use Rattle.j39_timing.proofs.WaitingWindow.{is_within}
 
 -- ---- kinds of sources
@@ -64,6 +65,15 @@ pub isnt : (x : Bool) → not x ≡ true → x ≡ false
 isnt false is = refl
 isnt true is = absurd (both_ways false refl is)
 
+-- what is more of a stream, whatever the time is: also where others ask for its messages
+abbrev pub more_of_stream : Stream → Option Want → ℕ
+more_of_stream its None = more_bits (its.frames * its.bits) its.jitter its.period
+more_of_stream its (Some want) = more_wanted (later_want its.jitter want) its.bits
+
+-- what is asked for are messages of it
+abbrev pub IsAskedAlike : Stream → Type 0
+IsAskedAlike its = (want : Want) → askers_want its ≡ Some want → (want.frames ≡ its.frames) × (want.period ≡ its.period)
+
 module _ (plan : Plan) (timing : Timing) (stays : UnitPlan → Bool) where
   abbrev pub whole : List (Option FlowFrames)
   whole = all plan timing stays
@@ -71,9 +81,8 @@ module _ (plan : Plan) (timing : Timing) (stays : UnitPlan → Bool) where
   abbrev stream : ℕ → Stream
   stream = (traffic plan timing stays).stream
 
-  -- what is more of a stream, whatever the time is
   abbrev pub more_at : ℕ → ℕ
-  more_at j = more_bits ((stream j).frames * (stream j).bits) (stream j).jitter (stream j).period
+  more_at j = more_of_stream (stream j) (askers_want (stream j))
 
 module _ (plan : Plan) (timing : Timing) (stays : UnitPlan → Bool) (states : DecidesWhoStays plan stays) (clean : Clean plan) (s : Schedule)
     (queued_first : (p : ℕ) → p < s.count → s.queued p ≤ s.start p) (planned : ℕ → Bool) (sent : FrameSources) (held : Held)
@@ -156,14 +165,27 @@ module _ (plan : Plan) (timing : Timing) (stays : UnitPlan → Bool) (states : D
       (as_wanted plan timing stays states clean s queued_first planned sent held keeps)
       positive j wait from (of_index k i) (λ p in_p counts. let x = parts k i p counts in (x.is, same p in_p x, x.inside))
 
-  pub at_rate : (k i j rate : ℕ) → ((p : ℕ) → p < s.count → Counts k i p → place p ≡ j) → 0 < (streams j).period → IsSpaced (streams j)
+  pub at_rate : (k i j rate : ℕ) → ((p : ℕ) → p < s.count → Counts k i p → place p ≡ j) → 0 < (streams j).period → IsAskedAlike (streams j)
       → IsRate timing ((streams j).frames * (streams j).bits) (streams j).period rate → bits_at k i ≤ n * rate + more_at plan timing stays j
-  at_rate k i j rate same some spaced is =
-      let lesser_most = spaced-most demands (wait + 1) (streams j) spaced in
+  at_rate k i j rate same some alike is =
       let most = at_lesser k i j same in
-      let all : share (wait + 1) (streams j) ≤ n * rate + more_at plan timing stays j =
-      subst (λ (x : ℕ). share x (streams j) ≤ n * rate + more_at plan timing stays j) (sym span) (stream_rate timing (streams j) n rate some is) in
-      omega (arith, lesser_most, most, all)
+      let all = by_askers (askers_want (streams j)) refl in
+      omega (arith, most, all)
+    where
+      by_askers : (asked : Option Want) → askers_want (streams j) ≡ asked
+          → wanted_share (wait + 1) (streams j) asked (demand_of demands (streams j)) ≤ n * rate + more_of_stream (streams j) asked
+      by_askers None none =
+          let lesser_most = lesser-most (wait + 1) (streams j) (demand_of demands (streams j)) in
+          let all : share (wait + 1) (streams j) ≤ n * rate + more_of_stream (streams j) None =
+          subst (λ (x : ℕ). share x (streams j) ≤ n * rate + more_of_stream (streams j) None) (sym span)
+          (stream_rate timing (streams j) n rate some is) in
+          omega (arith, lesser_most, all)
+      by_askers (Some want) asked =
+          let (frames, period) = alike want asked in
+          subst (λ (x : ℕ). asked_share x (streams j) want ≤ n * rate + more_of_stream (streams j) (Some want)) (sym span)
+          (asked_rate timing (streams j) want n rate (omega (arith, some, period))
+          (subst (λ (x : ℕ). IsRate timing (x * (streams j).bits) want.period rate) (sym frames)
+          (subst (λ (x : ℕ). IsRate timing ((streams j).frames * (streams j).bits) x rate) (sym period) is)))
 
   pub frame_of : (p : ℕ) → p < s.count → planned p ≡ true → (x : Source) → sent.source p ≡ x → IsFrameOf plan timing s held b x (sent.release p) p
   frame_of p in_p is x at = subst (λ (y : Source). IsFrameOf plan timing s held b y (sent.release p) p) at (keeps.frames p in_p is)

@@ -17,7 +17,8 @@ use Rattle.j39_network.specs.declared.plan.unit_plan.UnitPlan.{UnitPlan}
 use Rattle.j39_load.specs.Asked.{asked_of, total_load}
 use Rattle.j39_load.specs.Damage.{load_of_damage}
 use Rattle.j39_load.specs.KeepsPlan.{KeepsToPlan, source_place}
-use Rattle.j39_load.specs.Loads.{bits_of_ms, bits_per_ms, load_of_flow}
+use Rattle.j39_load.specs.Loads.{bits_of_ms, bits_per_ms}
+use Rattle.j39_load.specs.FlowLoads.{load_of_flow}
 use Rattle.j39_load.specs.LongRuns.{IsLongRunLoad, bits_damaged, bits_queued, counts_in_load, is_begun_within, is_counted, is_queued_within, seconds}
 use Rattle.j39_load.specs.RequestLoads.{load_of_request}
 use Rattle.j39_load.specs.Clocks.{bit_time, longest_million, million}

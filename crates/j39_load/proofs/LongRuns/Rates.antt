@@ -15,11 +15,11 @@ use Rattle.j39_load.specs.Broadcasts.{bits_each, bits_of_announcements, bits_of_
 use Rattle.j39_load.specs.Loads.{bits_a_second, bits_at_least, bits_of_ms, bits_per_ms, load_of}
 use Rattle.j39_load.specs.LongRuns.{seconds}
 use Rattle.j39_load.proofs.KeepingBroadcasts.{IsTimed}
-use Rattle.j39_load.proofs.LongRuns.Streams.{more_bits, more_wanted, share_rate, want_rate}
+use Rattle.j39_load.proofs.LongRuns.Streams.{asked_by_rate, later_want, more_bits, more_wanted, share_rate, want_rate}
 use Rattle.j39_load.proofs.Milliseconds.{agreed_least, agreed_second, some_bits}
 use Rattle.j39_timing.specs.declared.stream.Stream.{Stream}
 use Rattle.j39_timing.specs.declared.wants.Want.{Want}
-use Rattle.j39_timing.specs.Waits.{frames_of_want, share}
+use Rattle.j39_timing.specs.Waits.{asked_share, frames_of_want, share}
 
 pub both : (n a b : ℕ) → n * (a + b) ≡ n * a + n * b
 both n a b = grind arith
@@ -58,6 +58,11 @@ module _ (timing : Timing) where
       → share (bits_of_ms timing (seconds n)) stream ≤ n * rate + more_bits (stream.frames * stream.bits) stream.jitter stream.period
   stream_rate stream n rate positive is =
       share_rate stream (bits_of_ms timing (seconds n)) (n * rate) positive (in_seconds n (stream.frames * stream.bits) stream.period rate is)
+
+  pub asked_rate : (stream : Stream) (want : Want) (n rate : ℕ) → 0 < want.period → IsRate (want.frames * stream.bits) want.period rate
+      → asked_share (bits_of_ms timing (seconds n)) stream want ≤ n * rate + more_wanted (later_want stream.jitter want) stream.bits
+  asked_rate stream want n rate positive is =
+      asked_by_rate stream want (bits_of_ms timing (seconds n)) (n * rate) positive (in_seconds n (want.frames * stream.bits) want.period rate is)
 
   module _ (agree : timing.drift ≡ 0) where
     -- by clocks that agree

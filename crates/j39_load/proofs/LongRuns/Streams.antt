@@ -15,7 +15,7 @@ use Rattle.j39_timing.specs.declared.stream.Stream.{Stream}
 use Rattle.j39_timing.specs.declared.wants.Want.{Want}
 use Rattle.j39_timing.specs.FrameStreams.{Origins, AreOfStreams}
 use Rattle.j39_timing.specs.Traffic.{AreAsWanted}
-use Rattle.j39_timing.specs.Waits.{Demand, frames_of_want, lesser_share, share}
+use Rattle.j39_timing.specs.Waits.{Demand, asked_share, frames_of_want, lesser_share, share}
 use Rattle.j39_timing.proofs.FullWindows.{window_most}
 use Rattle.j39_timing.proofs.StreamSums.{at_most_one}
 use Rattle.j39_timing.proofs.WaitingWindow.{is_within}
@@ -59,6 +59,18 @@ want_rate want bits span rate positive le =
     let same : frames_of_want span want * bits ≡ want.frames * bits * div_ceil (span + want.jitter) want.period + want.frames * bits * want.more = grind arith in
     let more : more_wanted want bits ≡ want.frames * bits * (1 + div_ceil want.jitter want.period) + want.frames * bits * want.more = grind arith in
     omega (arith, slots, same, more)
+
+-- as of one whose messages may be queued so much later
+abbrev pub later_want : ℕ → Want → Want
+later_want jitter want = record want { jitter = jitter + want.jitter }
+
+pub asked_by_rate : (stream : Stream) (want : Want) (span rate : ℕ) → 0 < want.period → want.frames * stream.bits * span ≤ rate * want.period
+    → asked_share span stream want ≤ rate + more_wanted (later_want stream.jitter want) stream.bits
+asked_by_rate stream want span rate positive le =
+    let all = want_rate (later_want stream.jitter want) stream.bits span rate positive le in
+    let late : span + stream.jitter + want.jitter ≡ span + (stream.jitter + want.jitter) = omega arith in
+    let same = ap (λ (x : ℕ). want.frames * (div_ceil x want.period + want.more) * stream.bits) late in
+    omega (arith, all, same)
 
 module _ (s : Schedule) (count : ℕ) (stream : ℕ → Stream) (demands : List Demand) (planned : ℕ → Bool) (of : Origins)
     (known : AreOfStreams s (λ p. planned p ≡ true) count stream of) (as_wanted : AreAsWanted s planned of demands stream)

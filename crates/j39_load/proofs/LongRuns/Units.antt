@@ -1,6 +1,6 @@
 -- What is queued of a unit's long messages to all in a long time.
 use Rattle.std.proofs.Common.{◌≡◌, ◌≢◌, ℕ, ◌+◌, ◌*◌, ◌<◌, ◌≤◌, ◌⊎◌, Bool, true, false, not, cond, ◌&&◌, eqb, leb, ltb, if◌then◌else◌}
-use Rattle.std.proofs.Common.{List, get_or, map, All, Option, Some, None}
+use Rattle.std.proofs.Common.{List, get_or, map, max, All, Option, Some, None}
 use Rattle.std.proofs.Common.{refl, sym, ap, ◌∙◌, subst, inl, inr, arith}
 use Rattle.std.proofs.Math.Nat.{mul-le-mul_right}
 use Rattle.std.proofs.lemmas.Nat.{mul-le}
@@ -54,7 +54,7 @@ use Rattle.j39_load.proofs.LongRuns.Frames.{Counts, at_lesser, bits_at, frame_of
 
 -- where some messages of the flow go in one frame its announcements are wanted
 abbrev first_want : Broadcast → Want
-first_want b = record { frames = cond b.has_short 1 0; period = b.apart; jitter = b.jitter; more = 1 }
+first_want b = record { frames = cond b.has_short 1 0; period = b.apart; jitter = b.late; more = max 1 b.askers }
 
 module _ (plan : Plan) (timing : Timing) (stays : UnitPlan → Bool) where
   abbrev pub its_broadcasts : ℕ → List Broadcast
@@ -370,11 +370,11 @@ module _ (plan : Plan) (timing : Timing) (stays : UnitPlan → Bool) (states : D
       abbrev of : Origins
       of = origins_of plan sent
 
-      copies : (p : ℕ) → p < s.count → is_planned_first p ≡ true → (streams (of.source p)).wanted ≡ None ⊎ IsCopy plan s planned sent of p
-      copies p in_p is = inr (record { below = in_p; is = (and_parts (planned p) (is_first p) is).0; place = refl; since = refl })
+      copies : (p : ℕ) → p < s.count → is_planned_first p ≡ true → (streams (of.source p)).wanted ≡ None ⊎ IsCopy plan s planned sent s of p
+      copies p in_p is = inr (record { below = in_p; is = (and_parts (planned p) (is_first p) is).0; place = refl; since = refl; queued = refl })
 
       abbrev IsOne : ℕ → Type 0
-      IsOne p = IsAnnouncement plan timing stays s planned sent held keeps.frames keeps.broadcasts s is_planned_first of copies u p
+      IsOne p = IsAnnouncement plan timing stays s planned sent held keeps.frames keeps.broadcasts keeps.answers s is_planned_first of copies u p
 
       one_wanted : (p : ℕ) (x : IsOne p) → IsOf s is_planned_first of j p
           → 1 ≤ (first_want (its_broadcast plan timing stays b u x.message (message_at x.message x.known))).frames
@@ -387,7 +387,7 @@ module _ (plan : Plan) (timing : Timing) (stays : UnitPlan → Bool) (states : D
 
       first_most : first_bits_at ≤ n * load_of_firsts timing bs + sum_by (more_of first_want) bs
       first_most =
-          let few = announced_most plan timing stays s planned sent held keeps.frames keeps.broadcasts s is_planned_first of copies u m first_want
+          let few = announced_most plan timing stays s planned sent held keeps.frames keeps.broadcasts keeps.answers s is_planned_first of copies u m first_want
           (λ x. refl) (λ x. refl) (λ x. omega arith) below (ap (λ (x : Stream). x.wanted) stated) one_wanted from (wait + 1) in
           let each : first_bits_at ≤ 160 * releases_in s is_planned_first of j from (wait + 1) =
           total-times s.count (λ p. of_index plan timing stays states clean s queued_first planned sent held keeps from wait n span agree 2 u p && is_first p)

@@ -24,6 +24,11 @@ pub struct Broadcast {
     pub apart: u32,
     /// A message is ready to be sent at most so many bits after its release.
     pub jitter: u32,
+    /// It is wanted at most so many bits behind the moment from which this is counted how often it is: its release, or
+    /// the request that it answers.
+    pub late: u32,
+    /// How many requests that have a period ask for it, where the flow comes only as an answer.
+    pub askers: u16,
     /// Within so many bits of its release each has to be whole, where a deadline is written.
     pub deadline: Option<u32>,
 }

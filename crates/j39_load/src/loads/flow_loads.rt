@@ -1,12 +1,15 @@
 //! What each flow of a plan asks of the bus.
-ghost use Rattle.std.specs.Prelude.{◌≡◌, ◌≢◌, [], ◌^◌, ◌<◌, ◌≤◌, ℕ, max, All, length, IfOk, OnErr};
+ghost use Rattle.std.specs.Prelude.{◌≡◌, ◌≢◌, [], ◌^◌, ◌<◌, ◌≤◌, ℕ, max, All, length, IfOk, IfSome, OnErr};
 ghost use Rattle.j39_network.specs.declared.plan.to.To.TheVariants.{One};
 ghost use Rattle.std.specs.Option.{option_map};
-ghost use Rattle.j39_load.specs.Loads.{bits_inside as bits_in_time, broadcast_of, flow_load, has_short, load_of_flow};
-ghost use Rattle.j39_load.specs.Loads.{load_of_messages, loads_of, messages_of, packet_frames};
+ghost use Rattle.j39_load.specs.Loads.{bits_inside as bits_in_time, broadcast_of, flow_load, has_short};
+ghost use Rattle.j39_load.specs.FlowLoads.{load_of_flow};
+ghost use Rattle.j39_load.specs.Loads.{load_of_messages, messages_of, packet_frames};
+ghost use Rattle.j39_load.specs.FlowLoads.{loads_of};
 ghost use Rattle.j39_load.specs.Loads.{single_frames, singles_of, time_limit};
 ghost use Rattle.j39_load.specs.SoundLoads.{AreSound, AreSoundIfAny, AreSoundMessages, HaveFitPeriod, IsSoundBroadcast};
 ghost use Rattle.j39_load.specs.SoundLoads.{IsSoundIfKnown, IsSoundLoad};
+ghost use Rattle.j39_load.specs.AnswerStreams.{load_for};
 ghost use Rattle.j39_load.specs.inside.FewFrames.{HaveFewFrames};
 ghost use Rattle.j39_load.specs.inside.PlannedBuses.{on_bus, stays_in, units_in};
 ghost use Rattle.j39_tp.specs.Chunks.{packets_of};
@@ -16,6 +19,7 @@ use crate::frames::{
     bits_inside, group_ident, load_of, packet_ident, packet_stream, session_ident, single_stream,
     twin_ident,
 };
+use crate::loads::answers::{askers_of, frames_for, messages_for};
 use crate::loads::flow_load::FlowLoad;
 use j39_id::limits::FRAME_BYTES;
 use j39_network::{FlowPlan, GroupPlan, Pace, Timing, To};
@@ -130,6 +134,8 @@ fn broadcast(
         period: pace.period,
         apart: bits_at_least(timing, pace.period),
         jitter: bits_at_most(timing, pace.jitter),
+        late: bits_at_most(timing, pace.jitter),
+        askers: 0,
         deadline: deadline(timing, pace),
     }
 }
@@ -167,6 +173,7 @@ fn singles_of(
     requires receiver { (v : ℕ) → flow.now.to ≡ One v → v < length (units_in bus.now) }
     ensures singles { result ≡ on_bus singles_of bus.now flow.now pace group.now }
     ensures fits { AreSoundIfAny result }
+    ensures few { IfSome result (λ f. f.stream.frames ≤ 512) }
 {
     if usize::from(group.most) > FRAME_BYTES && has_short(group) {
         Some(single_frames(bus, flow, pace, group))
@@ -195,6 +202,8 @@ fn flow_load(bus: &PlannedBus<'_>, flow: &FlowPlan, pace: Pace, group: &GroupPla
     requires receiver { (v : ℕ) → flow.now.to ≡ One v → v < length (units_in bus.now) }
     ensures load { result ≡ on_bus flow_load bus.now flow.now pace group.now }
     ensures sound { IsSoundLoad result }
+    ensures few { HaveFewFrames result.messages }
+    ensures few_singles { IfSome result.singles (λ f. f.stream.frames ≤ 512) }
 {
     let messages = messages_of(bus, flow, pace, group);
     FlowLoad {
@@ -202,6 +211,25 @@ fn flow_load(bus: &PlannedBus<'_>, flow: &FlowPlan, pace: Pace, group: &GroupPla
         singles: singles_of(bus, flow, pace, group),
         limit: limit(bus.timing, pace),
         bits_per_second: load_of_messages(bus.timing, &messages, pace.period),
+    }
+}
+
+// What is asked of the bus by a flow for which so many requests ask.
+fn load_for(timing: Timing, pace: Pace, askers: u16, load: FlowLoad) -> FlowLoad
+    requires sound { IsSoundLoad load }
+    requires few { HaveFewFrames load.messages }
+    requires few_singles { IfSome load.singles (λ f. f.stream.frames ≤ 512) }
+    ensures load { result ≡ load_for timing pace askers load }
+    ensures sound { IsSoundLoad result }
+{
+    FlowLoad {
+        messages: messages_for(timing, pace, askers, load.messages),
+        singles: match load.singles {
+            Some(frames) => Some(frames_for(timing, pace, askers, frames)),
+            None => None,
+        },
+        limit: load.limit,
+        bits_per_second: load.bits_per_second,
     }
 }
 
@@ -216,7 +244,9 @@ fn load_of_flow(bus: &PlannedBus<'_>, flow: &FlowPlan) -> Option<FlowLoad>
     match flow.pace {
         Some(pace) => {
             let group = &bus.plan.groups[flow.group];
-            Some(flow_load(bus, flow, pace, group))
+            let askers = askers_of(bus.plan.requests.as_slice(), flow);
+            let load = flow_load(bus, flow, pace, group);
+            Some(load_for(bus.timing, pace, askers, load))
         }
         None => None,
     }

@@ -6,7 +6,8 @@ ghost use Rattle.j39_load.specs.Asked.{frames_asked};
 ghost use Rattle.j39_load.specs.AskedLoads.{asked_in};
 ghost use Rattle.j39_load.specs.Delays.{HasDelay, IsFrameDelay, IsShortDelay, IsWaitIn, IsWaitOf, AreFlowDelays};
 ghost use Rattle.j39_load.specs.Delays.{HasNoneWithin, IsDelayWithin, any_delay, blocking, frames_before, going_before};
-ghost use Rattle.j39_load.specs.Delays.{judged, keeps_up, streams_before, whole_time};
+ghost use Rattle.j39_load.specs.Delays.{blocking_of, judged, keeps_up, own_before, streams_before, whole_time};
+ghost use Rattle.j39_load.specs.AnswerStreams.{are_asked_for};
 ghost use Rattle.j39_load.specs.SoundLoads.{AreSound, FitIfAny, IsSoundBroadcast, IsSoundLoad};
 ghost use Rattle.j39_load.specs.inside.BufferingDelays.{AreFitBufferingDelays, IsShortWait, buffering_of};
 ghost use Rattle.j39_load.specs.inside.TurnTimes.{AreShortTurns, AreTurns, IsDelayBy, IsShortTurn, turn_at};
@@ -22,7 +23,7 @@ use crate::waits::turn::Turn;
 use crate::waits::twins::may_precede;
 use crate::waits::whole_time::WholeTime;
 use j39_network::Timing;
-use j39_timing::{Stream, frame_bits, least_wait};
+use j39_timing::{Stream, WantedBy, frame_bits, least_wait};
 use std::alloc::{AllocError, Global};
 
 // The bits of the frame that has begun before one of this identifier, and of those of no planned flow that may go
@@ -36,6 +37,29 @@ fn blocking(timing: Timing, ident: u64) -> u32
         0
     };
     u32::from(frame_bits(8)) * (1 + unplanned)
+}
+
+// Whether others ask for these frames, so that several may be queued at once.
+fn are_asked_for(frames: &FlowFrames) -> bool
+    ensures { result ≡ are_asked_for frames.now }
+{
+    match frames.stream.wanted {
+        Some(WantedBy::Askers(_want)) => true,
+        Some(WantedBy::Sender(_place)) => false,
+        None => false,
+    }
+}
+
+// What is blocking these: but for the frame itself, where it is counted with its stream.
+fn blocking_of(timing: Timing, frames: &FlowFrames) -> u32
+    ensures { result ≡ blocking_of timing frames.now }
+{
+    let blocking = blocking(timing, frames.greatest_ident);
+    if are_asked_for(frames) {
+        blocking.saturating_sub(u32::from(frames.stream.bits))
+    } else {
+        blocking
+    }
 }
 
 // Adds the stream of these frames, where one of them may go before one of those.
@@ -56,7 +80,21 @@ fn add_frames(
     Ok(())
 }
 
-// Adds that of the frames at this place, where they are others than those at a place.
+// Adds their own stream, where others of them may be queued at once.
+fn add_own(streams: &mut Vec<Stream>, frames: &FlowFrames) -> Result<(), AllocError>
+    requires frames { IsStream frames.now.stream }
+    requires streams { All IsStream streams.old.items }
+    ensures streams { OnOk result (streams.new.items ≡ streams.old.items ++ own_before frames.now) }
+    ensures fit { OnOk result (All IsStream streams.new.items) }
+    ensures few { OnOk result (length streams.new.items ≤ length streams.old.items + 1) }
+{
+    if are_asked_for(frames) {
+        streams.push(frames.stream)?;
+    }
+    Ok(())
+}
+
+// Adds that of the frames at this place, by whether they are those at a place.
 fn add_other(
     streams: &mut Vec<Stream>,
     i: usize,
@@ -74,7 +112,7 @@ fn add_other(
         return Ok(());
     };
     if place == i {
-        return Ok(());
+        return add_own(streams, frames);
     }
     add_frames(streams, own, frames)
 }
@@ -121,7 +159,7 @@ fn wait_of(
         frames,
     )?;
     let demands = buffering_delays.demands.as_slice();
-    let blocking = blocking(timing, frames.greatest_ident);
+    let blocking = blocking_of(timing, frames);
     let most = bits_of_ms(timing, 65_535);
     Ok(least_wait(demands, blocking, streams.as_slice(), most))
 }
@@ -173,7 +211,7 @@ fn delay_within(
         return None;
     }
     let demands = buffering_delays.demands.as_slice();
-    let blocking = blocking(timing, frames.greatest_ident);
+    let blocking = blocking_of(timing, frames);
     match least_wait(demands, blocking, streams, most - own) {
         Some(wait) => Some(wait + own),
         None => None,
@@ -257,7 +295,8 @@ fn turn_at(turns: &[Option<Turn>], unit: usize) -> Option<Turn>
 }
 
 // Whether messages are wanted no more often than they can be sent: a turn is over within the period, and what waits is
-// announced before the next one is wanted.
+// announced before the next one is wanted; or, where one request asks for them, a turn is over before the next one can be
+// wanted. Where several do, two may be wanted at once.
 fn keeps_up(broadcast: &Broadcast, turn: Turn) -> bool
     requires broadcast { IsSoundBroadcast broadcast.now }
     requires announcement { turn.announcement < 2 ^ 28 }
@@ -266,8 +305,11 @@ fn keeps_up(broadcast: &Broadcast, turn: Turn) -> bool
     ensures { result ≡ keeps_up broadcast.now turn }
 {
     let apart = u64::from(broadcast.apart);
-    let own = turn.announcement + u64::from(broadcast.packets) * turn.packet;
-    turn.time <= apart && u64::from(broadcast.jitter) + turn.time <= apart + own
+    if broadcast.askers == 0 {
+        let own = turn.announcement + u64::from(broadcast.packets) * turn.packet;
+        return turn.time <= apart && u64::from(broadcast.jitter) + turn.time <= apart + own;
+    }
+    broadcast.askers == 1 && turn.time + u64::from(broadcast.late) <= apart
 }
 
 // When the messages of these broadcasts are whole, where those of their unit take so long, one of each flow.

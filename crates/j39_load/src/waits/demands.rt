@@ -89,8 +89,8 @@ fn want_of(part: BroadcastPart, broadcast: &Broadcast) -> Want
             BroadcastPart::Announcements => 1,
         },
         period: broadcast.apart,
-        jitter: broadcast.jitter,
-        more: 1,
+        jitter: broadcast.late,
+        more: broadcast.askers.max(1),
     }
 }
 

@@ -1,4 +1,4 @@
-use Rattle.std.proofs.Common.{rules, ◌≡◌, ◌<◌, ◌+◌, ◌*◌, ℕ, refl, arith}
+use Rattle.std.proofs.Common.{rules, ◌≡◌, ◌<◌, ◌+◌, ◌*◌, ℕ, refl}
 use Rattle.j39_load.specs.inside.AskedShares.{digit_at, digit_base}
 use Rattle.j39_load.proofs.AskedShares.{combined_more, none_combined}
 use Rattle.j39_load.proofs.findings.asked_share.combine.Goals as goal

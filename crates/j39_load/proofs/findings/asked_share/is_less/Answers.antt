@@ -1,4 +1,4 @@
-use Rattle.std.proofs.Common.{rules, ◌≡◌, ◌<◌, ◌+◌, ℕ, refl, subst, sym}
+use Rattle.std.proofs.Common.{rules, ◌≡◌, ◌<◌, ◌+◌, ℕ, subst, sym}
 use Rattle.j39_load.specs.inside.AskedShares.{digit_at, digit_base, less_with}
 use Rattle.j39_load.proofs.AskedShares.{IsLess, less_more, none_less}
 use Rattle.j39_load.proofs.findings.asked_share.is_less.Goals as goal

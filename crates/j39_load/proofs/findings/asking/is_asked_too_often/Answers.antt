@@ -1,5 +1,4 @@
-use Rattle.std.proofs.Common.{◌≡◌, ap, sym, refl, ◌∙◌}
-use Rattle.j39_load.specs.AskedFlows.{asking_periods}
+use Rattle.std.proofs.Common.{sym, ◌∙◌}
 use Rattle.j39_load.proofs.AskedParts.{answering_more}
 use Rattle.j39_load.proofs.findings.asking.is_asked_too_often.Goals as goal
 

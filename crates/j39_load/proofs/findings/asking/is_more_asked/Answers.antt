@@ -1,6 +1,5 @@
-use Rattle.std.proofs.Common.{◌≡◌, ℕ, ◌+◌, ◌≤◌, List, true, false, take, Some, None, ◌++◌, ◌∷◌, sym, ap, ◌∙◌, arith}
+use Rattle.std.proofs.Common.{ℕ, ◌+◌, List, take, sym, ap, ◌∙◌, arith}
 use Rattle.j39_load.specs.AskedFlows.{asked_every, asking_periods, is_more_than_one}
-use Rattle.j39_load.specs.inside.AskedShares.{IsShareOf}
 use Rattle.j39_load.proofs.AskedParts.{more_of_all, none_asked, periods_with, periods_without, share_more, share_with}
 use Rattle.j39_load.proofs.findings.asking.is_more_asked.Goals.{in-Some+else-add, in_default}
 use Rattle.j39_load.proofs.findings.asking.is_more_asked.Goals as goal

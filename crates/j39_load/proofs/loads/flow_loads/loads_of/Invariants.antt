@@ -1,5 +1,5 @@
 use Rattle.std.proofs.Common.{◌≡◌, ◌≤◌, map, take, length, All, vec_len, vec_capacity}
-use Rattle.j39_load.specs.Loads.{load_of_flow}
+use Rattle.j39_load.specs.FlowLoads.{load_of_flow}
 use Rattle.j39_findings.specs.Standing.{stays_of}
 use Rattle.j39_load.specs.SoundLoads.{IsSoundIfKnown}
 use Rattle.j39_load.proofs.loads.flow_loads.loads_of.Given as goal

@@ -11,7 +11,7 @@ returns-clause-wait c =
     let streams = c.as_slice-2.ensures.value ∙ c.in_ok-streams.ensures.streams
     ∙ ap (streams_before c.args.timing c.args.place c.args.frames.now) c.as_slice.ensures.value in
     among_wait c.args.timing (buffering_of c.args.buffering_delays.now).frames c.args.place c.args.frames.now c.least_wait.result
-    (same_wait demands c.blocking-blocking.ensures streams c.bits_of_ms-most.ensures.bits c.args.timing refl c.least_wait.result
+    (same_wait demands c.blocking_of-blocking.ensures streams c.bits_of_ms-most.ensures.bits c.args.timing refl c.least_wait.result
     c.least_wait.ensures.found c.least_wait.ensures.none)
 
 pub returns-clause-short : goal.returns-clause-short

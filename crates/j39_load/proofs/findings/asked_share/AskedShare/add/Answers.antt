@@ -1,5 +1,5 @@
-use Rattle.std.proofs.Common.{rules, ◌≡◌, ◌<◌, ◌+◌, ◌*◌, ◌^◌, ℕ, List, refl, sym, ap, ◌∙◌, nat_lt, arith}
-use Rattle.j39_load.specs.inside.AskedShares.{parts_asked_in, digit_at, digit_base, first_digits, less_with, whole_in}
+use Rattle.std.proofs.Common.{rules, ◌+◌, ◌*◌, sym, ◌∙◌, arith}
+use Rattle.j39_load.specs.inside.AskedShares.{parts_asked_in, whole_in}
 use Rattle.j39_load.proofs.AskedShares.{added, is_more}
 use Rattle.j39_load.proofs.findings.asked_share.AskedShare.add.Goals as goal
 
