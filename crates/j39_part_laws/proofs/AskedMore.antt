@@ -1,11 +1,10 @@
 -- A flow of which more is asked in a part is asked for more in the whole.
-use Rattle.std.proofs.Common.{◌≡◌, ◌≢◌, ℕ, suc, ◌+◌, ◌*◌, ◌-◌, ◌<◌, ◌≤◌, ◌==◌, ◌&&◌, not, Bool, true, false, if◌then◌else◌, List, [], ◌∷◌, Option, Some, None, inl, inr, refl, sym, ap, subst, ◌∙◌, arith}
+use Rattle.std.proofs.Common.{◌≡◌, ℕ, ◌+◌, ◌*◌, ◌≤◌, ◌==◌, not, Bool, true, false, if◌then◌else◌, List, [], ◌∷◌, Some, None, inl, inr, refl, sym, ap, ◌∙◌, arith}
 use Rattle.std.proofs.lemmas.Bool.{and_from, and_parts, cases_lt, cases_order, eq-eqb, eqb-false, eqb-true, lt-ltb, ltb-true, ne_eqb, not-true}
-use Rattle.std.proofs.lemmas.Option.{none-some, same_Some}
+use Rattle.std.proofs.lemmas.Option.{none-some}
 use Rattle.j39_network.specs.Serving.{is_reached, serves}
 use Rattle.j39_network.specs.declared.plan.Plan.{Plan}
 use Rattle.j39_network.specs.declared.plan.flow_plan.FlowPlan.{FlowPlan}
-use Rattle.j39_network.specs.declared.plan.pace.Pace.{Pace}
 use Rattle.j39_network.specs.declared.plan.request_plan.RequestPlan.{RequestPlan}
 use Rattle.j39_network.specs.declared.plan.to.To.{To}
 use Rattle.j39_network.specs.declared.plan.to.To.TheVariants.{All, One}

@@ -83,6 +83,10 @@ turn_within f g p q n a b k m some flows has packets first later =
           (omega (arith, has, packets)) (omega (arith, flows)) (omega (arith, packets)) first later;
     }
 
+-- so messages to all do for which so many ask
+abbrev up_by : ℕ → Broadcast → Turn → Bool
+up_by n d u = if n == 0 then keeps_pace d u else (n == 1 && nat_le (u.time + d.late) d.apart)
+
 still_keeps_up : (unit : ℕ → ℕ) (b c : Broadcast) → AreBroadcast unit b c → (s t : Turn) → IsTurnWithin b.packets s t → keeps_up c t ≡ true → keeps_up b s ≡ true
 still_keeps_up unit b c alike s t within reported =
     by b.askers c.askers refl refl reported
@@ -97,9 +101,6 @@ still_keeps_up unit b c alike s t within reported =
         let late = alike.jitter in
         and_from (nat_le s.time b.apart) (nat_le (b.jitter + s.time) (b.apart + own_time b s)) (le-leb s.time b.apart (omega (arith, low, time, apart)))
         (le-leb (b.jitter + s.time) (b.apart + own_time b s) (omega (arith, next, own, others, apart, late)))
-
-    abbrev up_by : ℕ → Broadcast → Turn → Bool
-    up_by n d u = if n == 0 then keeps_pace d u else (n == 1 && nat_le (u.time + d.late) d.apart)
 
     never : (n : ℕ) → (suc n == 0) ≡ false
     never n = ne_eqb (suc n) 0 (λ same. omega (arith, same))

@@ -86,8 +86,8 @@ LoadsAlike at (Some l) None = ⊥
 LoadsAlike at (Some l) (Some k) = LoadAlike at l k
 
 -- a load goes by the pace
-same_load_of : {timing : Timing} (x y : Stream) → AreAtOnePace x y → (period : ℕ) → load_of timing x period ≡ load_of timing y period
-same_load_of {timing = timing} x y one period =
+same_load_of : (timing : Timing) (x y : Stream) → AreAtOnePace x y → (period : ℕ) → load_of timing x period ≡ load_of timing y period
+same_load_of timing x y one period =
     ap (λ (n : ℕ). bits_a_second timing (n * x.bits) period) one.frames ∙ ap (λ (n : ℕ). bits_a_second timing (y.frames * n) period) one.bits
 
 -- ---- more ask for them in the whole
@@ -411,8 +411,8 @@ module _ (at : Places) (part whole : Plan) (is : IsPartAt at part whole) (good :
           ]
 
       load_same : (a b : Messages) → BareAlike timing pace at a b → (period : ℕ) → load_of_messages timing a period ≡ load_of_messages timing b period
-      load_same (Short x) (Short y) (alike, one, rest) period = same_load_of x.stream y.stream one period
-      load_same (ToOne x) (ToOne y) (alike, one, rest) period = same_load_of x.stream y.stream one period
+      load_same (Short x) (Short y) (alike, one, bare, bare_there) period = same_load_of timing x.stream y.stream one period
+      load_same (ToOne x) (ToOne y) (alike, one, bare, bare_there) period = same_load_of timing x.stream y.stream one period
       load_same (Short x) (ToOne y) alike period = absurd alike
       load_same (Short x) (ToAll c) alike period = absurd alike
       load_same (ToOne x) (Short y) alike period = absurd alike
@@ -443,11 +443,19 @@ module _ (at : Places) (part whole : Plan) (is : IsPartAt at part whole) (good :
           let (group, sent) = group_is i flow here in
           let other = is.groups.each flow.group group sent in
           let number = number_of flow.group group sent in
-          rw (stands.pace, paced, stands.group, sent, other.value_is)
-          (subst (λ l. LoadAlike at (load_for timing pace (askers_of part.requests.items flow) (flow_load timing us reported flow pace group))
+          let here_is : load_of_flow timing part reported flow ≡ Some (asked_load timing part.requests.items us reported flow pace group) =
+          ap (option_and_then (λ (p : Pace). option_map (asked_load timing part.requests.items us reported flow p) (slice_get part.groups.items flow.group))) paced
+          ∙ ap (option_map (asked_load timing part.requests.items us reported flow pace)) sent in
+          let there_is : load_of_flow timing whole stays there ≡ Some (asked_load timing whole.requests.items ws stays there pace other.value) =
+          ap (option_and_then (λ (p : Pace). option_map (asked_load timing whole.requests.items ws stays there p) (slice_get whole.groups.items there.group)))
+          (stands.pace ∙ paced)
+          ∙ ap (option_map (asked_load timing whole.requests.items ws stays there pace)) (ap (slice_get whole.groups.items) stands.group ∙ other.value_is) in
+          subst (λ (x : Option FlowLoad). LoadsAlike at x (load_of_flow timing whole stays there)) (sym here_is)
+          (subst (λ (y : Option FlowLoad). LoadsAlike at (Some (asked_load timing part.requests.items us reported flow pace group)) y) (sym there_is)
+          (subst (λ (l : FlowLoad). LoadAlike at (load_for timing pace (askers_of part.requests.items flow) (flow_load timing us reported flow pace group))
           (load_for timing pace (askers_of whole.requests.items there) l)) (same_load group other.value other.meets timing ws stays there pace)
           (load_alike flow there stands (among_flow i flow here) pace group number.0 number.1 (askers_of part.requests.items flow)
-          (askers_of whole.requests.items there) (askers_more at part whole is flow there stands)))
+          (askers_of whole.requests.items there) (askers_more at part whole is flow there stands))))
 
   -- the unit of a long message to all is one of the part's
   pub flow_sender : (i : ℕ) (flow : FlowPlan) → slice_get part.flows.items i ≡ Some flow → (l : FlowLoad) → load_of_flow timing part reported flow ≡ Some l

@@ -411,7 +411,6 @@ module _ (unit : ℕ → ℕ) (Twins : ℕ → ℕ → Type 0) (one_twin : (m n 
     where
       others_same : (zs : List (Option FlowFrames)) (n : ℕ) → ((j : ℕ) (z : Option FlowFrames) → n ≤ j → less j z ≡ more j z)
           → lines_of_each less n zs ≡ lines_of_each more n zs
-      unfolding lines_of_each
       others_same [] n each = refl
       others_same (z ∷ zs) n each =
           ap (λ (l : List Stream). l ++ lines_of_each less (n + 1) zs) (each n z (omega arith))

@@ -118,7 +118,9 @@ module _ (g h : GroupPlan) (is : IsGroupThere g h) where
       period = pace.period;
       apart = bits_at_least timing pace.period;
       jitter = bits_at_most timing pace.jitter;
+      late = bits_at_most timing pace.jitter;
       deadline = option_map (bits_inside timing) pace.deadline;
+      askers = 0;
     }
 
     same_long : (to : To) → long_messages timing units stays flow pace g to ≡ long_messages timing units stays flow pace h to

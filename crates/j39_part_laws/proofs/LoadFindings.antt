@@ -1,17 +1,16 @@
 -- What is found of the load of a part is found of the whole's, but for what is too old.
-use Rattle.std.proofs.Common.{◌≡◌, ℕ, zero, suc, ◌+◌, ◌<◌, ◌≤◌, max, Bool, true, false, not, cond, nat_lt, if◌then◌else◌, List, [], ◌∷◌, ◌++◌, length, Contains}
+use Rattle.std.proofs.Common.{◌≡◌, ℕ, ◌+◌, ◌<◌, ◌≤◌, max, Bool, true, false, not, cond, if◌then◌else◌, List, [], ◌∷◌, ◌++◌, length, Contains}
 use Rattle.std.proofs.Common.{Option, Some, None, option_map, refl, sym, ◌∙◌, ap, subst, inl, inr, arith, slice_index_or}
 use Rattle.std.specs.List.{slice_get}
 use Rattle.std.specs.Option.{option_map_or}
-use Rattle.std.proofs.lemmas.Bool.{cases_Bool, false≢true, le-leb, leb-true, lt-ltb, ltb-true}
+use Rattle.std.proofs.lemmas.Bool.{cases_Bool, false≢true, le-leb, leb-true, lt-ltb}
 use Rattle.std.proofs.lemmas.List.{length-map}
 use Rattle.std.proofs.lemmas.List.Elements.{Contains-append_cases, Contains-append_left, Contains-append_right}
-use Rattle.std.proofs.lemmas.Option.{get_or_from_slice_get, none-some, same_Some, slice_get-get_or, slice_get_within}
+use Rattle.std.proofs.lemmas.Option.{get_or_from_slice_get, none-some, slice_get-get_or, slice_get_within}
 use Rattle.j39_network.specs.declared.plan.Plan.{Plan}
-use Rattle.j39_network.specs.declared.plan.need_plan.NeedPlan.{NeedPlan}
 use Rattle.j39_network.specs.declared.plan.timing.Timing.{Timing}
 use Rattle.j39_network.specs.declared.plan.unit_plan.UnitPlan.{UnitPlan}
-use Rattle.j39_load.specs.Ages.{is_in_limit, old_needs, oldness}
+use Rattle.j39_load.specs.Ages.{is_in_limit, old_needs}
 use Rattle.j39_load.specs.Asked.{asked_of, total_load}
 use Rattle.j39_load.specs.BusTimes.{timing_of, with_claims}
 use Rattle.j39_load.specs.LineLists.{lines_of_each}
@@ -20,7 +19,7 @@ use Rattle.j39_load.specs.LoadFindings.{all_findings, AreLoadFindings, flows_ask
 use Rattle.j39_load.specs.Loads.{bits_of_second}
 use Rattle.j39_load.specs.FlowLoads.{load_of_flow}
 use Rattle.j39_load.specs.declared.findings.load_finding.LoadFinding.{LoadFinding}
-use Rattle.j39_load.specs.declared.findings.load_finding.LoadFinding.TheVariants.{NoPeriod, Overload, LateFlow, NeedTooOld, AskedTooOften}
+use Rattle.j39_load.specs.declared.findings.load_finding.LoadFinding.TheVariants.{NoPeriod, Overload, LateFlow, AskedTooOften}
 use Rattle.j39_load.specs.declared.waits.delay.Delay.{Delay}
 use Rattle.j39_load.specs.declared.waits.delay.Delay.TheVariants.{Beyond, Late, Long, Whole, Within}
 use Rattle.j39_load.specs.declared.waits.whole_time.WholeTime.{WholeTime}

@@ -85,18 +85,18 @@ own_from v delays at timing flow bits timed its delayed =
     ∙ (ap (λ (o : Option FlowPlan). option_and_then (λ (f : FlowPlan). option_map (own_of timing f) (delay_at delays at)) o) its
     ∙ ap (option_map (own_of timing flow)) delayed)
 
+abbrev behind_with : Vehicle → Delays → FlowAt → Timing → FlowPlan → Option ℕ
+behind_with v delays at t f = option_map (behind_of t (askers_on v.buses.items at.bus f) f) (delay_at delays at)
+
 -- what ends so long behind a release of its own has a time of its own
 pub own_of_release : (v : Vehicle) (delays : Delays) (at : FlowAt) (time : ℕ) → behind_release v delays at ≡ Some time
     → (n : ℕ) × (own v delays at ≡ Some n)
 own_of_release v delays at time known =
-    let (timing, timed, rest) = and_then_some (λ (t : Timing). option_and_then (behind_with t) (flow_at v.buses.items at))
+    let (timing, timed, rest) = and_then_some (λ (t : Timing). option_and_then (behind_with v delays at t) (flow_at v.buses.items at))
     (timing_on v.buses.items at.bus) time known in
-    let (flow, its, more) = and_then_some (behind_with timing) (flow_at v.buses.items at) time rest in
+    let (flow, its, more) = and_then_some (behind_with v delays at timing) (flow_at v.buses.items at) time rest in
     let (bits, delayed, made) = map_some (behind_of timing (askers_on v.buses.items at.bus flow) flow) (delay_at delays at) time more in
     (own_of timing flow bits, own_from v delays at timing flow bits timed its delayed)
-  where
-    abbrev behind_with : Timing → FlowPlan → Option ℕ
-    behind_with t f = option_map (behind_of t (askers_on v.buses.items at.bus f) f) (delay_at delays at)
 
 -- ---- what its stream is
 
@@ -263,15 +263,12 @@ module _ (v : Vehicle) (delays : Delays) (stated : AreDelays v delays) (at : Flo
 
     pub release_is : behind_release v delays at ≡ Some (us_of_bits has.timing has.bits)
     release_is =
-        ap (λ (o : Option Timing). option_and_then (λ (t : Timing). option_and_then (behind_with t) (flow_at v.buses.items at)) o) has.timed
-        ∙ (ap (λ (o : Option FlowPlan). option_and_then (behind_with has.timing) o) has.its
+        ap (λ (o : Option Timing). option_and_then (λ (t : Timing). option_and_then (behind_with v delays at t) (flow_at v.buses.items at)) o) has.timed
+        ∙ (ap (λ (o : Option FlowPlan). option_and_then (behind_with v delays at has.timing) o) has.its
         ∙ (ap (option_map (behind_of has.timing (askers_on v.buses.items at.bus has.flow) has.flow)) has.delayed
         ∙ (ap (λ (k : ℕ). Some (behind_of has.timing k has.flow has.bits)) none_asks
         ∙ ap (λ (n : ℕ). Some (us_of_bits has.timing n)) nothing_more)))
       where
-        abbrev behind_with : Timing → FlowPlan → Option ℕ
-        behind_with t f = option_map (behind_of t (askers_on v.buses.items at.bus f) f) (delay_at delays at)
-
         nothing_more : has.bits + (bits_at_most has.timing (latest_ms 0 has.flow) - bits_at_most has.timing (jitter_ms has.flow)) ≡ has.bits
         nothing_more = omega arith
 

@@ -7,7 +7,8 @@ ghost use Rattle.j39_vehicle_times.specs.inside.Chains.{hop_by};
 use crate::bus_delays::{Delays, delay_at};
 use crate::clocks::bits_at_most;
 use crate::flows::{
-    askers_on, direct_place, flow_at, input_at, input_by, jitter_of, latest_of, own, pause_on, timing_on, within_of,
+    askers_on, direct_place, flow_at, input_at, input_by, jitter_of, latest_of, own, pause_on,
+    timing_on, within_of,
 };
 use j39_load::us_of_bits;
 use j39_network::{FlowPlan, Timing};

@@ -141,7 +141,8 @@ fn comes_too_often(vehicle: &Vehicle, ends: &Ends, there: usize) -> bool
     let counted = askers_on(buses, there, &ends.output);
     let here = shortest_on(buses, ends.at.bus);
     let shortest = shortest_on(buses, there);
-    is_more_often(here, &ends.input, shortest, &ends.output) || may_be_more(asking, counted, &ends.output)
+    is_more_often(here, &ends.input, shortest, &ends.output)
+        || may_be_more(asking, counted, &ends.output)
 }
 
 // Whether the input's messages may come more often than those of the output may be sent.
