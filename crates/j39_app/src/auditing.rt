@@ -1,5 +1,5 @@
 //! What is written of a log that is audited.
-ghost use Rattle.std.specs.Prelude.{◌≡◌, true, false, IfOk};
+ghost use Rattle.std.specs.Prelude.{◌≡◌, true, false};
 ghost use Rattle.std.specs.List.{list_any};
 ghost use Rattle.j39_app.specs.AuditAnswers.{hinders, is_hindered, is_hindering};
 ghost use Rattle.j39_audit.specs.AuditText.{IsAudit};
@@ -10,8 +10,7 @@ ghost use Rattle.j39_stream.specs.Streams.{log_limits};
 use crate::{CommandResult, Sink, Source, audit_text, put_all};
 use j39_findings::{Finding, check};
 use j39_network::Plan;
-use j39_plan_text::{PlanFindings, write_check};
-use j39_text::{ReportResult, TextBuffer};
+use j39_plan_text::check_report;
 use std::alloc::Global;
 
 // Whether a finding of this number hinders an audit.
@@ -30,20 +29,10 @@ fn are_hindering(findings: &[Finding]) -> bool
         .any(|finding| is_hindering(finding.number()))
 }
 
-// What the check command writes of a plan, with its verdict.
-fn findings_of(alloc: Global, plan: &Plan) -> ReportResult
-    ensures { IfOk result (λ report. IsReport plan.now report.0 report.1) }
-{
-    let found = PlanFindings::new(alloc, plan)?;
-    let mut text = TextBuffer::new(alloc);
-    let verdict = write_check(alloc, &mut text, plan, &found)?;
-    Ok((text, verdict))
-}
-
 fn put_findings<W: Sink>(alloc: Global, plan: &Plan, sink: &mut W) -> CommandResult
     ensures { PutsText (IsReport plan.now) W.state sink.old sink.new result }
 {
-    let (text, verdict) = findings_of(alloc, plan)?;
+    let (text, verdict) = check_report(alloc, plan)?;
     put_all(sink, text.as_slice())?;
     Ok(verdict)
 }

@@ -8,7 +8,7 @@ use Rattle.j39_variants.specs.declared.line.Choice.{Choice}
 use Rattle.j39_variants.specs.declared.line.ProductLine.{ProductLine}
 use Rattle.j39_line_findings.specs.InFile.{rank_of}
 use Rattle.j39_line_findings.specs.Reported.{is_reported}
-use Rattle.j39_plan_text.specs.FoundInPlan.{is_of_times}
+use Rattle.j39_answer.specs.PlanAnswers.{is_of_times}
 use Rattle.j39_line_findings.specs.declared.line_finding.LineFinding.{LineFinding}
 use Rattle.j39_line_findings.specs.declared.line_finding.LineFinding.TheVariants.{OfPlan, OfLoad}
 use Rattle.j39_line_check.specs.declared.answer.ReportedFinding.{ReportedFinding}

@@ -3,8 +3,8 @@ ghost use Rattle.j39_line_text.specs.LineCheckText.{IsLineCheckText};
 ghost use Rattle.j39_stream.specs.CommandEnds.{AnswersWhole, IsOfAny};
 ghost use Rattle.j39_stream.specs.Streams.{plan_limits};
 
-use crate::line_report::{line_report, plan_report};
-use j39_plan_text::{LineReport, report_text};
+use crate::line_report::line_report;
+use j39_plan_text::{LineReport, check_report, report_text};
 use j39_stream::{CommandResult, Sink, Source};
 use j39_text::ReportResult;
 use j39_variants::ProductLine;
@@ -22,7 +22,7 @@ impl LineReport for CheckReport {
         if line.has_choices() {
             return line_report(alloc, &line);
         }
-        plan_report(alloc, &line.plan)
+        check_report(alloc, &line.plan)
     }
 }
 

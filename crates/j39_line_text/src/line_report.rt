@@ -1,14 +1,11 @@
 //! What is written for a line of vehicles.
 ghost use Rattle.std.specs.Prelude.{◌≡◌, IfOk};
-ghost use Rattle.j39_plan_text.specs.CheckText.{IsReport};
 ghost use Rattle.j39_line_check.specs.LineChecks.{AreReported, SomePossible};
 ghost use Rattle.j39_line_text.specs.LineCheckText.{IsLineReport, is_some_reported, line_ok_text, no_variant_text};
 
 use crate::certificate::variants_without_findings_are_certified;
 use crate::witness_lines::findings_text;
 use j39_line_check::{LineAnswer, ReportedFinding, check_line};
-use j39_network::Plan;
-use j39_plan_text::{PlanFindings, write_check};
 use j39_stream::Verdict;
 use j39_text::{ReportResult, TextBuffer};
 use j39_variants::ProductLine;
@@ -76,14 +73,4 @@ pub(crate) fn line_report(alloc: Global, line: &ProductLine) -> ReportResult
             Ok(report)
         }
     }
-}
-
-/// What is written for one plan, with the verdict.
-pub(crate) fn plan_report(alloc: Global, plan: &Plan) -> ReportResult
-    ensures { IfOk result (λ report. IsReport plan.now report.0 report.1) }
-{
-    let found = PlanFindings::new(alloc, plan)?;
-    let mut text = TextBuffer::new(alloc);
-    let verdict = write_check(alloc, &mut text, plan, &found)?;
-    Ok((text, verdict))
 }

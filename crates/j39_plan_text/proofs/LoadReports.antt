@@ -1,5 +1,8 @@
 -- What is written of a plan's load.
-use Rattle.std.proofs.Common.{◌≡◌, ℕ, ◌++◌, Bool, true, false, List, [], Option, Some, sym, ap, ◌∙◌, subst, true≢false}
+use Rattle.std.proofs.Common.{◌≡◌, ℕ, ◌++◌, true, false, List, [], Option, Some, None, codes, refl, sym, ap, ◌∙◌, subst, true≢false}
+use Rattle.j39_answer.proofs.Answered.{unknown_bus}
+use Rattle.j39_answer.specs.PlanAnswers.{IsBusAnswer, IsPlanAnswer}
+use Rattle.j39_answer.specs.declared.plan_answer.PlanAnswer.{PlanAnswer}
 use Rattle.j39_network.specs.declared.plan.Plan.{Plan}
 use Rattle.j39_network.specs.declared.plan.timing.Timing.{Timing}
 use Rattle.j39_findings.specs.declared.checking.finding.Finding.{Finding}
@@ -15,7 +18,7 @@ use Rattle.j39_plan_text.specs.CheckText.{IsReport, findings_text}
 use Rattle.j39_plan_text.specs.LoadText.{IsLoadReport, WritesLoads, load_verdict, shows_times, unshown_text}
 use Rattle.j39_plan_text.specs.LoadLines.{loads_text}
 use Rattle.j39_stream.specs.declared.verdict.Verdict.{Verdict}
-use Rattle.j39_stream.specs.declared.verdict.Verdict.TheVariants.{Findings}
+use Rattle.j39_stream.specs.declared.verdict.Verdict.TheVariants.{Findings, Refused}
 
 module _ (plan : Plan) (timing : Timing) (is : timing_of plan ≡ Some timing) (answer : LoadAnswer) (stated : IsLoadAnswer plan timing answer)
     (findings : List Finding) (listed : findings ≡ found plan) where
@@ -60,3 +63,10 @@ module _ (plan : Plan) (timing : Timing) (is : timing_of plan ≡ Some timing) (
       verdict_is ∙ ap (λ (fs : List Finding). load_verdict fs others) listed ∙ ap (load_verdict (found plan)) stated.found in
       let loads : WritesLoads plan timing stated.stays delays text verdict = rw here (lines, ends) in
       of_plan text verdict loads
+
+-- nothing is known of the bus
+pub not_timed : (plan : Plan) (answer : PlanAnswer) → IsPlanAnswer plan answer → answer.load ≡ None → (text : List ℕ)
+    → text ≡ codes "refused plan NoTiming\n" → IsLoadReport plan (timing_of plan) text Refused
+not_timed plan answer is none text written =
+    let untimed : timing_of plan ≡ None = unknown_bus plan (timing_of plan) (subst (IsBusAnswer plan (timing_of plan)) none is.bus) in
+    subst (λ (t : Option Timing). IsLoadReport plan t text Refused) (sym untimed) (written, refl)

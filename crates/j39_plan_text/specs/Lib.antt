@@ -2,7 +2,6 @@ pub mod AddressesText
 pub mod Certified
 pub mod CheckText
 pub mod FindingLines
-pub mod FoundInPlan
 pub mod LoadLines
 pub mod LoadText
 pub mod PlanText

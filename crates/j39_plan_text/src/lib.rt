@@ -10,7 +10,6 @@ mod live_identifiers;
 mod load;
 mod load_lines;
 mod plan_file;
-mod plan_findings;
 mod plan_report;
 mod reporting;
 mod show;
@@ -33,8 +32,7 @@ pub use load_lines::{
     write_age, write_flow, write_known_delay, write_load, write_load_finding, write_time,
 };
 pub use plan_file::{line_text, refuse_choices, write_choices_refused, write_refusal};
-pub use plan_findings::PlanFindings;
-pub use plan_report::write_check;
+pub use plan_report::{check_report, write_check};
 pub use reporting::{LineReport, report_text};
 pub use show::show_text;
 pub use variant::variant_text;

@@ -7,8 +7,9 @@ ghost use Rattle.j39_load.specs.BusTimes.{timing_of};
 use crate::finding_lines::{is_between, write_lines};
 use crate::load_lines::{write_load_findings, write_loads};
 use crate::plan_report::write_findings;
-use j39_findings::{Finding, check};
-use j39_load::{LoadAnswer, LoadFinding, timing_of};
+use j39_answer::PlanAnswer;
+use j39_findings::Finding;
+use j39_load::LoadFinding;
 use j39_network::Plan;
 use j39_stream::Verdict;
 use j39_text::{ReportResult, TextBuffer, WriteResult};
@@ -120,18 +121,18 @@ pub fn load_report(alloc: Global, plan: &Plan) -> ReportResult
     ensures { IfOk result (λ report. IsLoadReport plan.now (timing_of plan.now) report.0 report.1) }
 {
     let mut text = TextBuffer::new(alloc);
-    let Some(timing) = timing_of(plan) else {
+    let answer = PlanAnswer::new(alloc, plan)?;
+    let Some(load) = &answer.load else {
         text.word("refused plan NoTiming\n")?;
         return Ok((text, Verdict::Refused));
     };
-    let answer = LoadAnswer::new(alloc, timing, plan)?;
-    let others = answer.findings.as_slice();
-    let findings = check(alloc, plan)?;
-    if shows_times(&findings) {
-        write_loads(&mut text, plan, &answer.loads, answer.delays.as_slice())?;
-        write_unshown(alloc, &mut text, plan, &findings, others)?;
-        return Ok((text, verdict_of(&findings, others)));
+    let findings = answer.findings.as_slice();
+    let others = load.findings.as_slice();
+    if shows_times(findings) {
+        write_loads(&mut text, plan, &load.loads, load.delays.as_slice())?;
+        write_unshown(alloc, &mut text, plan, findings, others)?;
+        return Ok((text, verdict_of(findings, others)));
     }
-    write_findings(alloc, &mut text, plan, &findings, others)?;
+    write_findings(alloc, &mut text, plan, findings, others)?;
     Ok((text, Verdict::Findings))
 }

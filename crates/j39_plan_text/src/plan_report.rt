@@ -1,17 +1,17 @@
 //! What is written for a plan.
 ghost use Rattle.std.specs.Prelude.{◌≡◌, ◌++◌, ℕ, List, OnOk, IfOk};
 ghost use Rattle.j39_plan_text.specs.CheckText.{IsReport, findings_text, listed_text, ok_line};
-ghost use Rattle.j39_plan_text.specs.FoundInPlan.{ArePlanFindings};
+ghost use Rattle.j39_answer.specs.PlanAnswers.{IsPlanAnswer};
 
 use crate::certificate::clean_plans_are_certified;
 use crate::finding_lines::write_lines;
 use crate::load_lines::write_load_findings;
-use crate::plan_findings::PlanFindings;
+use j39_answer::PlanAnswer;
 use j39_findings::{Finding, clean_where_none};
 use j39_load::LoadFinding;
 use j39_network::Plan;
 use j39_stream::Verdict;
-use j39_text::{TextBuffer, WriteResult};
+use j39_text::{ReportResult, TextBuffer, WriteResult};
 use std::alloc::{AllocError, Global};
 
 #[tactic(auto, unfolding(crate::specs::CheckText::ok_line))]
@@ -62,18 +62,29 @@ pub fn write_check(
     alloc: Global,
     text: &mut TextBuffer,
     plan: &Plan,
-    found: &PlanFindings,
+    answer: &PlanAnswer,
 ) -> Result<Verdict, AllocError>
-    requires { ArePlanFindings plan.now found.now }
+    requires { IsPlanAnswer plan.now answer.now }
     ensures { IfOk result (λ verdict. (report : List ℕ) × IsReport plan.now report verdict
         × (text.new ≡ text.old ++ report)) }
 {
-    if found.findings.is_empty() && found.others.is_empty() {
+    let others = answer.load_findings();
+    if answer.findings.is_empty() && others.is_empty() {
         clean_where_none();
         clean_plans_are_certified();
         write_ok(text, plan)?;
         return Ok(Verdict::Done);
     }
-    write_findings(alloc, text, plan, &found.findings, found.others.as_slice())?;
+    write_findings(alloc, text, plan, &answer.findings, others)?;
     Ok(Verdict::Findings)
+}
+
+/// What is written of everything that is wrong with a plan, or that nothing is, with the verdict.
+pub fn check_report(alloc: Global, plan: &Plan) -> ReportResult
+    ensures { IfOk result (λ report. IsReport plan.now report.0 report.1) }
+{
+    let answer = PlanAnswer::new(alloc, plan)?;
+    let mut text = TextBuffer::new(alloc);
+    let verdict = write_check(alloc, &mut text, plan, &answer)?;
+    Ok((text, verdict))
 }

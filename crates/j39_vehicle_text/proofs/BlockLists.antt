@@ -5,8 +5,8 @@ use Rattle.std.proofs.lemmas.List.{append-nil, drop_more, length-append}
 use Rattle.j39_findings.specs.Found.{found}
 use Rattle.j39_findings.specs.declared.checking.finding.Finding.{Finding}
 use Rattle.j39_load.specs.declared.findings.load_finding.LoadFinding.{LoadFinding}
-use Rattle.j39_plan_text.specs.FoundInPlan.{ArePlanFindings, are_of_times}
-use Rattle.j39_plan_text.specs.declared.plan_findings.PlanFindings.{PlanFindings}
+use Rattle.j39_answer.specs.PlanAnswers.{IsPlanAnswer, are_of_times, load_findings_in}
+use Rattle.j39_answer.specs.declared.plan_answer.PlanAnswer.{PlanAnswer}
 use Rattle.j39_vehicle.specs.declared.vehicle.bus_plan.BusPlan.{BusPlan}
 use Rattle.j39_vehicle_text.specs.VehicleBlocks.{AreBlocks, IsBlock, all_are_of_times, count_of_plans}
 
@@ -85,17 +85,17 @@ none_written all text = record {
   few = omega arith;
 }
 
--- and of the next one, in whose plan this is wrong
-module _ (bus : BusPlan) (left all : List BusPlan) (before middle after : List ℕ) (count next : ℕ) (times more : Bool) (wrong : PlanFindings)
-    (block : List ℕ) (so : BlocksSoFar (bus ∷ left) all before middle count times) (are : ArePlanFindings bus.plan wrong)
-    (is : IsBlock bus wrong.others.items block) (put : after ≡ middle ++ block)
-    (counts : next ≡ count + (length wrong.findings.items + length wrong.others.items))
-    (states : more ≡ (times && are_of_times wrong.findings.items wrong.others.items)) (few : next ≤ count + 2 ^ 64) where
-  next_is : next ≡ count + count_of bus wrong.others.items
-  next_is = counts ∙ ap (λ (fs : List Finding). count + (length fs + length wrong.others.items)) are.listed
+-- and of the next one, of whose plan this is known
+module _ (bus : BusPlan) (left all : List BusPlan) (before middle after : List ℕ) (count next : ℕ) (times more : Bool) (known : PlanAnswer)
+    (block : List ℕ) (so : BlocksSoFar (bus ∷ left) all before middle count times) (are : IsPlanAnswer bus.plan known)
+    (is : IsBlock bus (load_findings_in known) block) (put : after ≡ middle ++ block)
+    (counts : next ≡ count + (length known.findings.items + length (load_findings_in known)))
+    (states : more ≡ (times && are_of_times known.findings.items (load_findings_in known))) (few : next ≤ count + 2 ^ 64) where
+  next_is : next ≡ count + count_of bus (load_findings_in known)
+  next_is = counts ∙ ap (λ (fs : List Finding). count + (length fs + length (load_findings_in known))) are.listed
 
-  more_is : more ≡ (times && are_of_times (found bus.plan) wrong.others.items)
-  more_is = states ∙ ap (λ (fs : List Finding). times && are_of_times fs wrong.others.items) are.listed
+  more_is : more ≡ (times && are_of_times (found bus.plan) (load_findings_in known))
+  more_is = states ∙ ap (λ (fs : List Finding). times && are_of_times fs (load_findings_in known)) are.listed
 
   length_done : length (so.done ++ bus ∷ []) ≡ length so.done + 1
   length_done = length-append so.done (bus ∷ [])
@@ -104,14 +104,14 @@ module _ (bus : BusPlan) (left all : List BusPlan) (before middle after : List �
   one_written = record {
     done = so.done ++ bus ∷ [];
     all_are = so.all_are ∙ sym (append_assoc so.done (bus ∷ []) left);
-    others = so.others ++ wrong.others.items ∷ [];
+    others = so.others ++ (load_findings_in known) ∷ [];
     blocks = so.blocks ++ block;
-    blocks_are = push so.done so.others so.blocks bus wrong.others.items block so.blocks_are is;
+    blocks_are = push so.done so.others so.blocks bus (load_findings_in known) block so.blocks_are is;
     text_is = put ∙ ap (λ (t : List ℕ). t ++ block) so.text_is ∙ append_assoc before so.blocks block;
-    count_is = next_is ∙ ap (λ (n : ℕ). n + count_of bus wrong.others.items) so.count_is
-        ∙ sym (counted so.done so.others so.blocks bus wrong.others.items so.blocks_are);
-    times_is = more_is ∙ ap (λ (t : Bool). t && are_of_times (found bus.plan) wrong.others.items) so.times_is
-        ∙ sym (timed so.done so.others so.blocks bus wrong.others.items so.blocks_are);
+    count_is = next_is ∙ ap (λ (n : ℕ). n + count_of bus (load_findings_in known)) so.count_is
+        ∙ sym (counted so.done so.others so.blocks bus (load_findings_in known) so.blocks_are);
+    times_is = more_is ∙ ap (λ (t : Bool). t && are_of_times (found bus.plan) (load_findings_in known)) so.times_is
+        ∙ sym (timed so.done so.others so.blocks bus (load_findings_in known) so.blocks_are);
     few = omega (arith, so.few, few, length_done);
   }
 

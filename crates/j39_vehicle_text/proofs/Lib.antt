@@ -1,5 +1,7 @@
 pub mod Behind
 pub mod BlockLists
+pub mod DelaysSoFar
+pub mod KnownBuses
 pub mod NoFindings
 pub mod Reporting
 pub mod WaySteps

@@ -5,7 +5,7 @@ use Rattle.j39_findings.specs.Found.{found}
 use Rattle.j39_load.specs.BusTimes.{timing_of}
 use Rattle.j39_load.specs.LoadFindings.{AreLoadFindings}
 use Rattle.j39_load.specs.declared.findings.load_finding.LoadFinding.{LoadFinding}
-use Rattle.j39_plan_text.specs.FoundInPlan.{are_of_times}
+use Rattle.j39_answer.specs.PlanAnswers.{are_of_times}
 use Rattle.j39_vehicle.specs.declared.vehicle.Vehicle.{Vehicle}
 use Rattle.j39_vehicle.specs.declared.vehicle.bus_plan.BusPlan.{BusPlan}
 use Rattle.j39_vehicle_findings.specs.FoundPaths.{path_findings, queue_findings, vehicle_findings}

@@ -11,7 +11,7 @@ use Rattle.j39_load.specs.BusTimes.{timing_of}
 use Rattle.j39_load.specs.LoadFindings.{AreLoadFindings}
 use Rattle.j39_load.specs.declared.findings.load_finding.LoadFinding.{LoadFinding}
 use Rattle.j39_plan_text.specs.CheckText.{IsReport}
-use Rattle.j39_plan_text.specs.FoundInPlan.{are_of_times}
+use Rattle.j39_answer.specs.PlanAnswers.{are_of_times}
 use Rattle.j39_plan_text.specs.LoadLines.{load_line}
 use Rattle.j39_stream.specs.declared.verdict.Verdict.{Verdict}
 use Rattle.j39_vehicle.specs.declared.vehicle.bus_plan.BusPlan.{BusPlan}

@@ -1,5 +1,6 @@
 //! What is written of a vehicle.
 ghost use Rattle.std.specs.Prelude.{◌≡◌, ◌++◌, ℕ, List, IfOk, OnOk, true};
+ghost use Rattle.j39_vehicle_times.specs.BusDelays.{AreDelays};
 ghost use Rattle.j39_vehicle_text.specs.CertifiedVehicle.{HasNoFindings, IsCertifiedVehicle};
 ghost use Rattle.j39_vehicle_text.specs.VehicleText.{IsFoundBeyond, IsVehicleReport, end_line, end_verdict};
 ghost use Rattle.j39_vehicle_text.specs.VehicleText.{vehicle_ok_line};
@@ -13,7 +14,7 @@ use j39_stream::Verdict;
 use j39_text::{ReportResult, TextBuffer, WriteResult};
 use j39_vehicle::Vehicle;
 use j39_vehicle_findings::{Routes, path_tables};
-use j39_vehicle_times::delays_of;
+use j39_vehicle_times::Delays;
 use std::alloc::{AllocError, Global};
 
 // Writes the lines of forwards and needs, and finds what is wrong with times and queues too.
@@ -21,19 +22,20 @@ fn write_times(
     alloc: Global,
     text: &mut TextBuffer,
     vehicle: &Vehicle,
+    delays: &Delays,
 ) -> Result<BeyondPlans, AllocError>
+    requires { AreDelays vehicle.now delays.now }
     ensures { IfOk result (λ found. (lines : List ℕ) × IsFoundBeyond vehicle.now true lines found
         × (text.new ≡ text.old ++ lines)) }
 {
-    let delays = delays_of(alloc, vehicle)?;
     let tables = path_tables(alloc, vehicle)?;
     let routes = Routes {
         vehicle,
         tables: &tables,
     };
-    write_forwards(text, &routes, &delays)?;
-    write_needs(alloc, text, &routes, &delays)?;
-    BeyondPlans::with_times(alloc, &routes, &delays)
+    write_forwards(text, &routes, delays)?;
+    write_needs(alloc, text, &routes, delays)?;
+    BeyondPlans::with_times(alloc, &routes, delays)
 }
 
 // The same, where the plans of the buses have no findings but of times, and else what is wrong with forwards and needs
@@ -42,13 +44,15 @@ fn write_beyond(
     alloc: Global,
     text: &mut TextBuffer,
     vehicle: &Vehicle,
+    delays: &Delays,
     timed: bool,
 ) -> Result<BeyondPlans, AllocError>
+    requires { AreDelays vehicle.now delays.now }
     ensures { IfOk result (λ found. (lines : List ℕ) × IsFoundBeyond vehicle.now timed lines found
         × (text.new ≡ text.old ++ lines)) }
 {
     if timed {
-        write_times(alloc, text, vehicle)
+        write_times(alloc, text, vehicle, delays)
     } else {
         BeyondPlans::without_times(alloc, vehicle)
     }
@@ -88,8 +92,8 @@ pub(super) fn vehicle_report(alloc: Global, vehicle: &Vehicle) -> ReportResult
     ensures { IfOk result (λ report. IsVehicleReport vehicle.now report.0 report.1) }
 {
     let mut text = TextBuffer::new(alloc);
-    let plans = write_blocks(alloc, &mut text, &vehicle.buses)?;
-    let found = write_beyond(alloc, &mut text, vehicle, plans.are_of_times)?;
+    let (plans, delays) = write_blocks(alloc, &mut text, &vehicle.buses)?;
+    let found = write_beyond(alloc, &mut text, vehicle, &delays, plans.are_of_times)?;
     found.write(&mut text, vehicle)?;
     let verdict = write_end(&mut text, vehicle, plans.count + found.count())?;
     Ok((text, verdict))

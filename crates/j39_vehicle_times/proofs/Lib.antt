@@ -4,5 +4,4 @@ pub mod Feeding
 pub mod Hops
 pub mod Sums
 pub mod TimeLaws
-pub mod Stated
 pub mod Youngest

@@ -1,15 +1,11 @@
 //! How long the messages of each flow of each bus take.
-ghost use Rattle.std.specs.Prelude.{◌≡◌, ◌≢◌, [], IfOk, OnErr};
+ghost use Rattle.std.specs.Prelude.{◌≡◌};
 ghost use Rattle.std.specs.Option.{option_copied};
-ghost use Rattle.j39_load.specs.BusTimes.{timing_of};
-ghost use Rattle.j39_vehicle_times.specs.BusDelays.{AreDelays, AreDelaysOn, delays_on};
+ghost use Rattle.j39_vehicle_times.specs.BusDelays.{delays_on};
 ghost use Rattle.j39_vehicle_times.specs.Times.{bits_within, delay_at};
 
-use j39_load::{Delay, Loads, timing_of};
-use j39_network::Plan;
-use j39_vehicle::Vehicle;
+use j39_load::Delay;
 use j39_vehicle_findings::FlowAt;
-use std::alloc::{AllocError, Global};
 
 /// Of each bus, by its place, the delay of each of its flows, and none of a bus of whose timing nothing is known.
 #[derive(Drop)]
@@ -49,30 +45,4 @@ pub fn delay_at(delays: &Delays, at: FlowAt) -> Option<u32>
         Some(delay) => bits_within(*delay),
         None => None,
     }
-}
-
-// The delays of the flows of a bus with this plan.
-fn delays_by(alloc: Global, plan: &Plan) -> Result<Vec<Option<Delay>>, AllocError>
-    ensures { IfOk result (λ delays. AreDelaysOn plan.now (timing_of plan.now) delays.items) }
-{
-    let Some(timing) = timing_of(plan) else {
-        return Ok(Vec::new(alloc));
-    };
-    let loads = Loads::new(alloc, timing, plan)?;
-    let delays = loads.delays(alloc)?;
-    Ok(delays)
-}
-
-/// The delays of the flows of all buses, each as its plan asks of it.
-pub fn delays_of(alloc: Global, vehicle: &Vehicle) -> Result<Delays, AllocError>
-    ensures stated { IfOk result (λ delays. AreDelays vehicle.now delays) }
-    ensures memory { OnErr result (vehicle.now.buses.items ≢ []) }
-{
-    let mut of_buses = Vec::new(alloc);
-    for place in 0..vehicle.buses.len() {
-        let bus = &vehicle.buses[place];
-        let stated = delays_by(alloc, &bus.plan)?;
-        of_buses.push(stated)?;
-    }
-    Ok(Delays { of_buses })
 }

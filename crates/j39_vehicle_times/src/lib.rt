@@ -12,7 +12,7 @@ mod flows;
 mod laws;
 mod needs;
 
-pub use bus_delays::{Delays, delays_of};
+pub use bus_delays::Delays;
 pub use chains::queued;
 pub use checking::{TimeFindings, find_in_times};
 pub use ends::{first_output, is_late_asked};

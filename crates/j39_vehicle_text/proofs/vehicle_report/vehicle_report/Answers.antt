@@ -5,6 +5,9 @@ use Rattle.j39_vehicle_text.specs.VehicleBlocks.{count_of_plans}
 use Rattle.j39_vehicle_text.specs.VehicleText.{count_beyond}
 use Rattle.j39_vehicle_text.proofs.vehicle_report.vehicle_report.Goals as goal
 
+pub write_beyond-requires : goal.write_beyond-requires
+write_beyond-requires c = c.in_ok-plans.ensures.delays c.args.vehicle.now (sym c.deref.ensures.value)
+
 pub write_end-requires : goal.write_end-requires
 write_end-requires c none =
     let v = c.args.vehicle.now in

@@ -1,5 +1,5 @@
 -- Delays of one bus after another.
-use Rattle.std.proofs.Common.{◌≡◌, ℕ, zero, suc, ◌+◌, ◌<◌, List, [], ◌∷◌, ◌++◌, Bool, length, Option, Some, refl, sym, ap, ◌∙◌, subst, inl, inr, arith}
+use Rattle.std.proofs.Common.{◌≡◌, ℕ, zero, suc, ◌+◌, ◌<◌, List, [], ◌∷◌, ◌++◌, length, Option, Some, refl, sym, ap, ◌∙◌, subst, inl, inr, arith}
 use Rattle.std.specs.List.{slice_get}
 use Rattle.std.specs.Option.{option_map_or}
 use Rattle.std.specs.declared.alloc.Global.{Global}
@@ -7,14 +7,8 @@ use Rattle.std.specs.declared.vec.Vec.{Vec}
 use Rattle.std.proofs.lemmas.Bool.{cases_lt}
 use Rattle.std.proofs.lemmas.List.{length-append}
 use Rattle.std.proofs.lemmas.Option.{same_Some, slice_get_within}
-use Rattle.j39_findings.specs.Standing.{DecidesWhoStays}
 use Rattle.j39_load.specs.BusTimes.{timing_of}
 use Rattle.j39_vehicle_times.specs.BusDelays.{AreDelays, AreDelaysOn}
-use Rattle.j39_network.specs.declared.plan.Plan.{Plan}
-use Rattle.j39_network.specs.declared.plan.timing.Timing.{Timing}
-use Rattle.j39_network.specs.declared.plan.unit_plan.UnitPlan.{UnitPlan}
-use Rattle.j39_load.specs.Asked.{Asked, asked_of}
-use Rattle.j39_load.specs.Delays.{AreFlowDelays}
 use Rattle.j39_load.specs.declared.waits.delay.Delay.{Delay}
 use Rattle.j39_vehicle.specs.declared.vehicle.Vehicle.{Vehicle}
 use Rattle.j39_vehicle.specs.declared.vehicle.bus_plan.BusPlan.{BusPlan}
@@ -40,14 +34,6 @@ all_stated v delays count stated = record {
   count = count;
   each = λ b bus is. let less = slice_get_within v.buses.items b bus is in stated.each b bus (omega arith) is;
 }
-
--- those of a bus of whose timing something is known
-pub delays_known : (plan : Plan) (timing : Timing) (o : Option Timing) → o ≡ Some timing → (stays : UnitPlan → Bool) (asked : Asked)
-    (delays : List (Option Delay)) → DecidesWhoStays plan stays → asked ≡ asked_of timing plan stays → AreFlowDelays timing asked delays
-    → AreDelaysOn plan o delays
-delays_known plan timing o is stays asked delays states same waits =
-    subst (λ t. AreDelaysOn plan t delays) (sym is)
-    (stays, record { standing = states; waits = subst (λ a. AreFlowDelays timing a delays) same waits })
 
 kept_at : {A : Type 0} (xs : List A) (y : A) (b : ℕ) → b < length xs → slice_get (xs ++ y ∷ []) b ≡ slice_get xs b
 kept_at [] y b less = absurd (omega arith)
