@@ -1,5 +1,5 @@
 -- Frames that a log has again: loggers with two sockets, and merged files, have a frame twice.
-use Rattle.std.specs.Prelude.{ℕ, ◌+◌, ◌*◌, nat_le, nat_lt, ◌==◌, ◌&&◌, Bool, false, if◌then◌else◌, length, Option, Some, None}
+use Rattle.std.specs.Prelude.{ℕ, ◌+◌, ◌-◌, ◌*◌, nat_le, nat_lt, ◌==◌, ◌&&◌, Bool, false, if◌then◌else◌, length, Option, Some, None}
 use Rattle.std.specs.Option.{option_map_or}
 use Rattle.std.specs.Str.{bytes_eq}
 use Rattle.j39_id.specs.Ident.{bits}
@@ -25,7 +25,7 @@ is_same_frame f g = bits f.ident == bits g.ident && bytes_eq f.payload.items g.p
 
 -- it comes behind the other one, and sooner than this can have been sent once more
 abbrev pub is_too_soon : Timing → Frame → ℕ → ℕ → Bool
-is_too_soon t f before time = nat_le before time && nat_lt time (before + shortest_frame t (length f.payload.items))
+is_too_soon t f before time = nat_le before time && nat_lt (time - before) (shortest_frame t (length f.payload.items))
 
 abbrev pub is_again_behind : Timing → TakenFrame → ℕ → Frame → Bool
 is_again_behind t one time f = is_same_frame one.frame f && is_too_soon t f one.time time

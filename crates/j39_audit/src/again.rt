@@ -55,7 +55,7 @@ fn is_same_frame(frame: &Frame, other: &Frame) -> bool
 fn is_too_soon(timing: Timing, frame: &Frame, before: u64, time: u64) -> bool
     ensures { result ≡ is_too_soon timing frame.now before time }
 {
-    before <= time && time < before.saturating_add(shortest_frame(timing, frame.payload.len()))
+    before <= time && time - before < shortest_frame(timing, frame.payload.len())
 }
 
 // Whether a frame of this time is the one before, which stands there again.

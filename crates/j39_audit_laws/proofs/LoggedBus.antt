@@ -288,11 +288,11 @@ module _ (s : Settings) (apart : ArePlannedApart (units_of s.plan)) (written tim
   unfolding is_again
   first_new = refl
 
-  too_late : (bitrate : Bitrate) (bytes : ℕ) → bytes ≤ 8 → nat_lt 1990000 (1000000 + bit_us bitrate * (67 + 8 * bytes)) ≡ false
-  too_late Kbit125 bytes few = le-ltb (1000000 + bit_us Kbit125 * (67 + 8 * bytes)) 1990000 (omega (arith, few))
-  too_late Kbit250 bytes few = le-ltb (1000000 + bit_us Kbit250 * (67 + 8 * bytes)) 1990000 (omega (arith, few))
-  too_late Kbit500 bytes few = le-ltb (1000000 + bit_us Kbit500 * (67 + 8 * bytes)) 1990000 (omega (arith, few))
-  too_late Mbit1 bytes few = le-ltb (1000000 + bit_us Mbit1 * (67 + 8 * bytes)) 1990000 (omega (arith, few))
+  too_late : (bitrate : Bitrate) (bytes : ℕ) → bytes ≤ 8 → nat_lt (1990000 - 1000000) (bit_us bitrate * (67 + 8 * bytes)) ≡ false
+  too_late Kbit125 bytes few = le-ltb (bit_us Kbit125 * (67 + 8 * bytes)) 990000 (omega (arith, few))
+  too_late Kbit250 bytes few = le-ltb (bit_us Kbit250 * (67 + 8 * bytes)) 990000 (omega (arith, few))
+  too_late Kbit500 bytes few = le-ltb (bit_us Kbit500 * (67 + 8 * bytes)) 990000 (omega (arith, few))
+  too_late Mbit1 bytes few = le-ltb (bit_us Mbit1 * (67 + 8 * bytes)) 990000 (omega (arith, few))
 
   second_new : is_again s.plan (with_next_number first_past).taken (line_time s.plan later_text) frame ≡ false
   unfolding first_past is_again
@@ -303,7 +303,7 @@ module _ (s : Settings) (apart : ArePlannedApart (units_of s.plan)) (written tim
       let taken : first_past.taken ≡ Some one = taken_with s start (line_time s.plan second_text) None frame packet
       ∙ ap (λ (o : Option ℕ). taken_frame o frame 1 w) (line_time_is s.plan written second_text 1000000 timed second_written) in
       let same : Bool = is_same_frame frame frame in
-      let late : Bool = nat_le 1000000 1990000 && nat_lt 1990000 (1000000 + bit_us written.bitrate * (67 + 8 * length frame.payload.items)) in
+      let late : Bool = nat_le 1000000 1990000 && nat_lt (1990000 - 1000000) (bit_us written.bitrate * (67 + 8 * length frame.payload.items)) in
       ap (λ (o : Option TakenFrame). is_again s.plan o (line_time s.plan later_text) frame) taken
       ∙ ap (λ (o : Option ℕ). is_again s.plan (Some one) o frame) (line_time_is s.plan written later_text 1990000 timed later_written)
       ∙ ap (λ (o : Option Timing). option_map_or (λ (t : Timing). is_again_behind t one 1990000 frame) o false) timed

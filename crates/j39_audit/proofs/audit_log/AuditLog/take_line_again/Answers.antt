@@ -1,8 +1,7 @@
-use Rattle.std.proofs.Common.{ℕ, List, Option, Vec, Global, ap, ◌∙◌}
+use Rattle.std.proofs.Common.{ℕ, List, Option, ap, ◌∙◌}
 use Rattle.std.proofs.lemmas.Result.{IfOk-weaker}
 use Rattle.std.specs.Option.{option_copied}
 use Rattle.j39_follow.specs.LogLines.{interface_behind}
-use Rattle.j39_follow.specs.inside.FollowedSoFar.{interface_of}
 use Rattle.j39_audit.specs.AuditText.{past_again}
 use Rattle.j39_audit.specs.inside.Recalling.{settings_of}
 use Rattle.j39_audit.proofs.Hearing.{again_interface, follows_still}
