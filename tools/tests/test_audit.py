@@ -44,6 +44,8 @@ SAID = [
     ("unit ENGINE frames 7", "unit", {"unit": "ENGINE", "frames": 7}),
     ("frames 18 skipped 0 bad 1 elsewhere 2 unsure 3 breaks 4 stamps 1000", "counts",
      {"frames": 18, "skipped": 0, "bad": 1, "elsewhere": 2, "unsure": 3, "breaks": 4, "stamps": 1000}),
+    ("frames 18 skipped 0 bad 1 elsewhere 2 unsure 3 breaks 4 stamps 1000 again 5", "counts",
+     {"frames": 18, "skipped": 0, "bad": 1, "elsewhere": 2, "unsure": 3, "breaks": 4, "stamps": 1000, "again": 5}),
     ("deviations 4", "counts", {"deviations": 4}),
 ]
 

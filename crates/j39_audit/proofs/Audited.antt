@@ -41,9 +41,10 @@ audited s log input text verdict has is =
     record {
       past = has.past;
       read = has.read;
-      text_is = is.text_is ∙ ap (λ (t : Settings). text_by t log.counts (tallied log)) has.settings_are
-          ∙ ap (λ (k : LineCounts). text_by s k (tallied log)) (counts log past has.recalls)
-          ∙ ap (λ (l : Look). text_by s (counts_of past) l) look;
+      text_is = is.text_is ∙ ap (λ (t : Settings). text_by t log.counts log.again (tallied log)) has.settings_are
+          ∙ ap (λ (k : LineCounts). text_by s k log.again (tallied log)) (counts log past has.recalls)
+          ∙ ap (λ (a : ℕ). text_by s (counts_of past) a (tallied log)) has.recalls.again_is
+          ∙ ap (λ (l : Look). text_by s (counts_of past) past.again l) look;
       verdict_is = is.verdict_is ∙ ap (λ (t : Settings). verdict_by (accusation_count t (tallied log))) has.settings_are
           ∙ ap (λ (l : Look). verdict_by (accusation_count s l)) look;
     }

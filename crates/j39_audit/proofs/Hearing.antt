@@ -1,5 +1,5 @@
 -- Lines of a log, one after another.
-use Rattle.std.proofs.Common.{◌≡◌, ◌<◌, ◌≤◌, ◌+◌, ◌++◌, ◌∷◌, [], ℕ, Bool, true, false, List, Bor, Option, Vec, Global, inl, inr, refl, ap, subst, ◌∙◌, arith}
+use Rattle.std.proofs.Common.{◌≡◌, ◌<◌, ◌≤◌, ◌+◌, ◌++◌, ◌∷◌, [], ℕ, Bool, true, false, List, Bor, Option, Some, None, Vec, Global, inl, inr, refl, ap, subst, ◌∙◌, arith}
 use Rattle.std.specs.Prelude.{IfNone, IfSome}
 use Rattle.std.specs.Option.{option_copied}
 use Rattle.j39_follow.specs.LogLines.{IsElsewhere, IsInterface, IsReadPart}
@@ -14,8 +14,9 @@ use Rattle.j39_id.specs.declared.line_error.LineError.TheVariants.{Empty, NoHash
 use Rattle.j39_log.specs.declared.line_counts.LineCounts.{LineCounts}
 use Rattle.j39_log.specs.LineCounting.{AreWithin, IsLineMore}
 use Rattle.j39_tp.specs.declared.packet.Packet.{Packet}
-use Rattle.j39_audit.specs.AuditText.{AuditPast, AuditsLine, AuditsLines, AuditsPart, AuditsShort, passed_by, past_with_frame, with_next_number}
+use Rattle.j39_audit.specs.AuditText.{AuditPast, AuditsLine, AuditsLines, AuditsPart, AuditsShort, passed_by, past_again, past_with_frame, with_next_number}
 use Rattle.j39_audit.specs.Settings.{Settings}
+use Rattle.j39_audit.specs.declared.again.TakenFrame.{TakenFrame}
 use Rattle.j39_audit.specs.declared.audit_log.AuditLog.{AuditLog}
 use Rattle.j39_audit.specs.inside.Auditing.{AccordsWith, RecallsAudit}
 
@@ -32,6 +33,19 @@ pub frame_number : (s : Settings) (past : AuditPast) (time : Option ℕ) (named 
     → (past_with_frame s past time named f packet).number ≡ past.number
 unfolding past_with_frame
 frame_number s past time named f packet = refl
+
+-- nor is one that stands there again
+pub again_number : (s : Settings) (past : AuditPast) (taken : Option TakenFrame) (time : Option ℕ) → (past_again s taken time past).number ≡ past.number
+unfolding past_again
+again_number s past None time = refl
+again_number s past (Some one) None = refl
+again_number s past (Some one) (Some time) = refl
+
+pub again_interface : (s : Settings) (past : AuditPast) (taken : Option TakenFrame) (time : Option ℕ) → (past_again s taken time past).interface ≡ past.interface
+unfolding past_again
+again_interface s past None time = refl
+again_interface s past (Some one) None = refl
+again_interface s past (Some one) (Some time) = refl
 
 -- one line is read behind others
 pub line_more : (s : Settings) (ls : List Line) (line : Line) (past middle end : AuditPast) → AuditsLines s past ls middle → AuditsLine s middle line end
@@ -55,12 +69,14 @@ within_line old new most more less line within = record {
   elsewhere = omega (arith, less, within.elsewhere, line.elsewhere);
 }
 
--- the number of a line, its interface and its counts are no part of what is followed
-pub follows_still : (log : AuditLog) (past : AuditPast) {number n f k b e : ℕ} {interface : Option (Vec ℕ Global)} {counts : LineCounts} {i : Option (List ℕ)}
-    → AccordsWith log past
-    → AccordsWith (record log { number = number; interface = interface; counts = counts }) (record past {
+-- the number of a line, its interface, the frame before and the counts are no part of what is followed
+pub follows_still : (log : AuditLog) (past : AuditPast) {number n f k b e again a : ℕ} {interface : Option (Vec ℕ Global)} {counts : LineCounts} {i : Option (List ℕ)}
+    {taken t : Option TakenFrame} → AccordsWith log past
+    → AccordsWith (record log { number = number; interface = interface; counts = counts; taken = taken; again = again }) (record past {
       number = n;
       interface = i;
+      taken = t;
+      again = a;
       frames = f;
       skipped = k;
       bad = b;
@@ -84,6 +100,8 @@ next_line log past recalls = record {
   follows = follows_still log past recalls.follows;
   number_is = ap (λ (n : ℕ). n + 1) recalls.number_is;
   interface_is = recalls.interface_is;
+  taken_is = recalls.taken_is;
+  again_is = recalls.again_is;
   frames_are = recalls.frames_are;
   skipped_are = recalls.skipped_are;
   bad_are = recalls.bad_are;

@@ -1,5 +1,5 @@
 -- The text that the audit command writes for a plan and a log.
-use Rattle.std.specs.Prelude.{◌≡◌, ℕ, ◌+◌, ◌⊎◌, ◌==◌, nat_lt, Bool, true, false, if◌then◌else◌, List, [], ◌∷◌, ◌++◌, length, codes, slice_index_or, Option, None}
+use Rattle.std.specs.Prelude.{◌≡◌, ℕ, ◌+◌, min, ◌⊎◌, ◌==◌, nat_lt, Bool, true, false, if◌then◌else◌, List, [], ◌∷◌, ◌++◌, length, codes, slice_index_or, Option, Some, None}
 use Rattle.std.specs.List.{slice_get}
 use Rattle.std.specs.Option.{option_map_or}
 use Rattle.j39_id.specs.FrameLine.{Spells, HasLineFault}
@@ -21,12 +21,13 @@ use Rattle.j39_text.specs.Texts.{field, place_field}
 use Rattle.j39_tp.specs.declared.packet.Packet.{Packet}
 use Rattle.j39_stream.specs.declared.verdict.Verdict.{Verdict}
 use Rattle.j39_stream.specs.declared.verdict.Verdict.TheVariants.{Done, Findings}
+use Rattle.j39_audit.specs.Again.{broadcasts_again, is_again, moments_again, taken_frame}
 use Rattle.j39_audit.specs.Asking.{Asking, all_forgotten, asking_behind, nobody_asked as no_asking}
 use Rattle.j39_audit.specs.Below.{each_below, sum_below}
 use Rattle.j39_audit.specs.BegunBroadcasts.{BegunBroadcasts, all_ended as all_broadcasts_ended, announcement_in, broadcasts_before, broadcasts_behind, no_broadcasts, packet_with}
 use Rattle.j39_audit.specs.Breaks.{breaks, line_time, newest_behind}
 use Rattle.j39_audit.specs.Claiming.{HeardClaims, broken_off, knowledge, no_claims}
-use Rattle.j39_audit.specs.Counting.{Noted, reported_in}
+use Rattle.j39_audit.specs.Counting.{Noted, most_times, reported_in}
 use Rattle.j39_audit.specs.Gaps.{ends_gap, quiet_by}
 use Rattle.j39_audit.specs.Looking.{IsPacketOf, break_noted, claims_behind, frame_noted, noted_if}
 use Rattle.j39_audit.specs.Moments.{Moments, all_pauses_ended, begins_anew, behind_bad, behind_gap, moments_behind, no_moments, with_packet_stream}
@@ -35,6 +36,7 @@ use Rattle.j39_audit.specs.Pauses.{ending_of}
 use Rattle.j39_audit.specs.SentMessages.{noted_at}
 use Rattle.j39_audit.specs.Responses.{AreResponses}
 use Rattle.j39_audit.specs.Settings.{AreMoving, Settings, by_load as judged_by_load, units_planned}
+use Rattle.j39_audit.specs.declared.again.TakenFrame.{TakenFrame}
 use Rattle.j39_audit.specs.declared.by_load.Bound.TheVariants.{Bus}
 use Rattle.j39_audit.specs.declared.mark.Mark.{Mark}
 use Rattle.j39_audit.specs.declared.mark.Word.{Word}
@@ -43,13 +45,16 @@ use Rattle.j39_audit.specs.declared.tally.Occurrences.{Occurrences}
 
 -- ---- a log
 
--- what came so far: how many lines, the interface of the log, the newest time, that of the frame before, the claims, what was noted, what the times report by the bus and by
+-- what came so far: how many lines, the interface of the log, the newest time, that of the frame before, this frame where nothing that is skipped or bad came
+-- since, how many stand there again, the claims, what was noted, what the times report by the bus and by
 -- load, who is asked for claims, the planned broadcasts, and how many lines there were of each sort
 pub record AuditPast : Type 0 where
   pub number : ℕ
   pub interface : Option (List ℕ)
   pub newest : Option ℕ
   pub before : Option ℕ
+  pub taken : Option TakenFrame
+  pub again : ℕ
   pub claims : HeardClaims
   pub noted : List Noted
   pub moments : Moments
@@ -67,6 +72,8 @@ nothing_read = record {
   interface = None;
   newest = None;
   before = None;
+  taken = None;
+  again = 0;
   claims = no_claims;
   noted = [];
   moments = no_moments;
@@ -82,6 +89,7 @@ nothing_read = record {
 abbrev pub bad_line : Settings → AuditPast → AuditPast
 bad_line s past = record past {
   bad = past.bad + 1;
+  taken = None;
   moments = behind_bad s past.moments;
   by_load = behind_bad (judged_by_load s) past.by_load;
   asking = all_forgotten past.asking;
@@ -92,6 +100,7 @@ bad_line s past = record past {
 abbrev pub skipped_line : AuditPast → AuditPast
 skipped_line past = record past {
   skipped = past.skipped + 1;
+  taken = None;
   noted = past.noted ++ noted_if (nat_lt 0 past.frames) (noted_at past.number Short 0 0);
   moments = behind_gap past.moments;
   by_load = behind_gap past.by_load;
@@ -138,6 +147,7 @@ past_with_frame s past time named f packet = record past {
   interface = interface_behind past.interface named;
   newest = newest_behind s.stamps past.newest time;
   before = time;
+  taken = taken_frame time f past.number (sighted_behind nothing_sighted (noted_newly s past time f packet));
   claims = claims_with_frame s past time f;
   noted = past.noted ++ noted_newly s past time f packet;
   moments = with_packet_stream s time past.number (packet_with s.plan.timing (counted_for s past time f packet) f (broadcasts_there s past time f))
@@ -150,9 +160,31 @@ past_with_frame s past time named f packet = record past {
   frames = past.frames + 1;
 }
 
+-- with a frame of this flow, unit and line that stands there again, at this time
+abbrev pub with_again : Settings → Option ℕ → Option ℕ → ℕ → ℕ → AuditPast → AuditPast
+with_again s flow unit line time past = record past {
+  again = min (past.again + 1) most_times;
+  moments = moments_again s flow time past.moments;
+  by_load = moments_again s flow time past.by_load;
+  broadcasts = broadcasts_again s unit line time past.broadcasts;
+}
+
+unfoldable pub past_again : Settings → Option TakenFrame → Option ℕ → AuditPast → AuditPast
+past_again s (Some one) (Some time) past = with_again s one.flow one.unit one.line time past
+past_again s _ _ past = past
+
+-- and of a line that names this interface
+abbrev pub past_with_again : Settings → Option ℕ → Option (List ℕ) → AuditPast → AuditPast
+past_with_again s time named past = record (past_again s past.taken time past) { interface = interface_behind past.interface named }
+
+-- a frame of this time stands there again, or it is taken as some packet or none
+abbrev pub TakesFrame : Settings → AuditPast → Option ℕ → Option (List ℕ) → Frame → AuditPast → Type 0
+TakesFrame s past time named f next =
+    ((is_again s.plan past.taken time f ≡ true) × (next ≡ past_with_again s time named past))
+    ⊎ ((is_again s.plan past.taken time f ≡ false) × ((packet : Option Packet) × IsPacketOf f packet × (next ≡ past_with_frame s past time named f packet)))
+
 abbrev pub AuditsFrame : Settings → AuditPast → List ℕ → Option (List ℕ) → Frame → AuditPast → Type 0
-AuditsFrame s past time named f next =
-    (packet : Option Packet) × IsPacketOf f packet × (next ≡ past_with_frame s past (line_time s.plan time) named f packet)
+AuditsFrame s past time named f next = TakesFrame s past (line_time s.plan time) named f next
 
 -- a line that isn't elsewhere is read: as the frame that its part spells, or it is passed over
 abbrev pub AuditsPart : Settings → AuditPast → List ℕ → List ℕ → Option (List ℕ) → AuditPast → Type 0
@@ -378,11 +410,15 @@ requests_seen plan look = each_below (request_seen plan look) (length plan.reque
 unfoldable pub units_seen : Plan → Look → List ℕ
 units_seen plan look = each_below (unit_seen plan look) (length plan.units.items)
 
+-- how many frames stand there again, where some do
+unfoldable pub again_text : ℕ → List ℕ
+again_text again = if again == 0 then [] else field (codes " again ") again
+
 -- how many lines there were of each sort
-unfoldable pub sorts_text : ℕ → LineCounts → Look → List ℕ
-sorts_text stamps counts look = lines_text counts ++ (field (codes " elsewhere ") counts.elsewhere
+unfoldable pub sorts_text : ℕ → LineCounts → ℕ → Look → List ℕ
+sorts_text stamps counts again look = lines_text counts ++ (field (codes " elsewhere ") counts.elsewhere
     ++ (field (codes " unsure ") (times_of look Unsure 0) ++ (field (codes " breaks ") (times_of look Break 0)
-    ++ (field (codes " stamps ") stamps ++ 10 ∷ []))))
+    ++ (field (codes " stamps ") stamps ++ (again_text again ++ 10 ∷ [])))))
 
 -- and how many accuse
 unfoldable pub deviations_line : ℕ → List ℕ
@@ -390,10 +426,10 @@ deviations_line n = field (codes "deviations ") n ++ 10 ∷ []
 
 -- ---- the text
 
-unfoldable pub text_by : Settings → LineCounts → Look → List ℕ
-text_by s counts look =
+unfoldable pub text_by : Settings → LineCounts → ℕ → Look → List ℕ
+text_by s counts again look =
     accusations s look ++ (flows_seen s.plan look ++ (requests_seen s.plan look ++ (units_seen s.plan look
-    ++ (sorts_text s.stamps counts look ++ deviations_line (accusation_count s look)))))
+    ++ (sorts_text s.stamps counts again look ++ deviations_line (accusation_count s look)))))
 
 abbrev pub counts_of : AuditPast → LineCounts
 counts_of past = record { frames = past.frames; skipped = past.skipped; bad = past.bad; elsewhere = past.elsewhere }
@@ -437,7 +473,7 @@ look_at past m =
     else if is_of_broadcasts m.word then reported_in past.broadcasts.late m else reported_in past.noted m
 
 abbrev pub audit_text : Settings → AuditPast → List ℕ
-audit_text s past = text_by s (counts_of past) (look_at past)
+audit_text s past = text_by s (counts_of past) past.again (look_at past)
 
 abbrev pub verdict_by : ℕ → Verdict
 verdict_by n = if n == 0 then Done else Findings

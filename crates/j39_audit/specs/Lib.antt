@@ -1,3 +1,4 @@
+pub mod Again
 pub mod Asking
 pub mod AuditText
 pub mod BegunBroadcasts

@@ -3,7 +3,7 @@ ghost use Rattle.std.specs.Prelude.{◌≡◌, ◌≤◌, ◌<◌, ◌^◌, ◌+
 ghost use Rattle.std.specs.Option.{option_copied};
 ghost use Rattle.j39_id.specs.Lines.{Line, yields};
 ghost use Rattle.j39_log.specs.LineCounting.{AreWithin, IsLineMore};
-ghost use Rattle.j39_audit.specs.AuditText.{AuditPast, bad_line, is_of_asking, is_of_broadcasts, is_of_load, is_of_moments, mark_by_bus, passed_by, skipped_line};
+ghost use Rattle.j39_audit.specs.AuditText.{AuditPast, bad_line, is_of_asking, is_of_broadcasts, is_of_load, is_of_moments, mark_by_bus, passed_by, past_again, past_with_again, skipped_line, with_again};
 ghost use Rattle.j39_audit.specs.BegunBroadcasts.{BegunBroadcasts as SomeBroadcasts, broadcasts_behind, packet_with};
 ghost use Rattle.j39_audit.specs.Claiming.{HeardClaims, broken_off};
 ghost use Rattle.j39_audit.specs.Counting.{Noted};
@@ -12,10 +12,11 @@ ghost use Rattle.j39_audit.specs.MessageStreams.{nothing_sighted, sighted_behind
 ghost use Rattle.j39_audit.specs.Moments.{Moments as SomeMoments, with_packet_stream};
 ghost use Rattle.j39_audit.specs.Pauses.{unclear_behind};
 ghost use Rattle.j39_audit.specs.Settings.{Settings};
-ghost use Rattle.j39_audit.specs.inside.Auditing.{AccordsWith, AreAllNear, HasAudited, HasAuditedWhole, IsWithinLines, RecallsAudit, TakesFrame, TakesFrameLine, TakesLine};
+ghost use Rattle.j39_audit.specs.inside.Auditing.{AccordsWith, AreAllNear, HasAudited, FollowsFrame, HasAuditedWhole, IsWithinLines, RecallsAudit, TakesFrameLine, TakesFrameNew, TakesLine};
 ghost use Rattle.j39_audit.specs.inside.Auditing.{AreOnlyTimesNew, RecallsTimes, tallied, times_behind};
 ghost use Rattle.j39_audit.specs.inside.Recalling.{AreNear, KnowsClaims, Notes, RecallsBroadcasts, RecallsMoments, known_by, settings_of};
 
+use crate::again::{TakenFrame, is_again, taken_frame};
 use crate::announcements::{Announcement, announcement_in};
 use crate::asking::Asking;
 use crate::basis::Basis;
@@ -43,8 +44,11 @@ pub(crate) struct AuditLog<'a> {
     // The interface of the first line that names one: the log's.
     pub interface: Option<Vec<u8>>,
     pub newest: Option<u64>,
-    // The time of the frame before.
+    // The time of the frame before, and this frame, where no line was skipped or bad since.
     pub before: Option<u64>,
+    pub taken: Option<TakenFrame>,
+    // How many frames stand there again.
+    pub again: u64,
     pub known: Known,
     pub tally: MarkTally,
     // What times report by the bus, and by load.
@@ -178,6 +182,8 @@ impl<'a> AuditLog<'a> {
             interface: None,
             newest: None,
             before: None,
+            taken: None,
+            again: 0,
             known,
             tally: MarkTally::new(alloc),
             moments,
@@ -268,8 +274,9 @@ impl<'a> AuditLog<'a> {
         ensures number { self.new.number ≡ self.old.number }
         ensures interface { self.new.interface ≡ self.old.interface }
         ensures counts { self.new.counts ≡ self.old.counts }
+        ensures again { self.new.again ≡ self.old.again }
         ensures frame { OnOk result ((past : AuditPast) (named : Option (List ℕ)) → AccordsWith self.old past → self.old.number ≡ past.number
-            → TakesFrame self.new past time named frame.now) }
+            → FollowsFrame self.new past time named frame.now) }
     {
         let broken = breaks(self.basis.stamps, self.newest, time);
         let gap = ends_gap(
@@ -325,6 +332,7 @@ impl<'a> AuditLog<'a> {
         ensures counted { IsLineMore self.old.counts self.new.counts }
         ensures fault { OnOk result ((past : AuditPast) → RecallsAudit self.old past → RecallsAudit self.new (skipped_line past)) }
     {
+        self.taken = None;
         self.moments.pass_over();
         self.by_load.pass_over();
         self.counts.skipped += 1;
@@ -350,6 +358,7 @@ impl<'a> AuditLog<'a> {
             → RecallsAudit self.new (bad_line (settings_of self.new.basis) past)) }
     {
         self.counts.bad += 1;
+        self.taken = None;
         self.asking.forget_all(&self.basis);
         self.broadcasts.forget_all(&self.basis);
         self.moments.pass_bad(&self.basis)?;
@@ -376,12 +385,68 @@ impl<'a> AuditLog<'a> {
         }
     }
 
-    // Takes a line that spells this frame, and names this interface.
-    fn take_frame_line(
+    // Takes a frame of this flow, unit and line that stands there again at this time.
+    fn take_again(&mut self, flow: Option<usize>, unit: Option<usize>, line: u64, time: u64)
+        requires time { time < 2 ^ 61 }
+        requires near { AreAllNear self.old }
+        ensures near { AreAllNear self.new }
+        ensures basis { self.new.basis ≡ self.old.basis }
+        ensures number { self.new.number ≡ self.old.number }
+        ensures counts { self.new.counts ≡ self.old.counts }
+        ensures again { (past : AuditPast) → RecallsAudit self.old past
+            → RecallsAudit self.new (with_again (settings_of self.new.basis) flow unit line time past) }
+    {
+        self.again = self.again.saturating_add(1);
+        self.moments.take_again(&self.basis, flow, time);
+        self.by_load.take_again(&self.basis, flow, time);
+        self.broadcasts.take_again(&self.basis, unit, line, time);
+    }
+
+    // Takes the frame before, if there is one, which stands there again at this time, if it has one.
+    #[tactic(auto, unfolding(crate::specs::AuditText::past_again))]
+    fn take_taken(&mut self, time: Option<u64>)
+        requires time { IfSome time (λ t. t < 2 ^ 61) }
+        requires near { AreAllNear self.old }
+        ensures near { AreAllNear self.new }
+        ensures basis { self.new.basis ≡ self.old.basis }
+        ensures number { self.new.number ≡ self.old.number }
+        ensures counts { self.new.counts ≡ self.old.counts }
+        ensures again { (past : AuditPast) → RecallsAudit self.old past
+            → RecallsAudit self.new (past_again (settings_of self.new.basis) past.taken time past) }
+    {
+        let Some(one) = &self.taken else {
+            return;
+        };
+        let Some(time) = time else {
+            return;
+        };
+        let flow = one.flow;
+        let unit = one.unit;
+        let line = one.line;
+        self.take_again(flow, unit, line, time);
+    }
+
+    // Takes a line of the frame before, which stands there again at this time, and that names this interface.
+    fn take_line_again(&mut self, time: Option<u64>, named: Option<&[u8]>) -> Result<(), AllocError>
+        requires time { IfSome time (λ t. t < 2 ^ 61) }
+        requires near { AreAllNear self.old }
+        ensures near { OnOk result (AreAllNear self.new) }
+        ensures basis { self.new.basis ≡ self.old.basis }
+        ensures again { OnOk result ((past : AuditPast) → RecallsAudit self.old past
+            → RecallsAudit self.new (past_with_again (settings_of self.new.basis) time (option_copied named.entry) past)) }
+        ensures number { self.new.number ≡ self.old.number }
+        ensures counts { self.new.counts ≡ self.old.counts }
+    {
+        self.take_taken(time);
+        keep_interface(self.alloc, &mut self.interface, named)
+    }
+
+    // Takes a line that spells this frame, which doesn't stand there again, and names this interface.
+    fn take_new(
         &mut self,
         time: Option<u64>,
         named: Option<&[u8]>,
-        frame: &Frame,
+        frame: Frame,
     ) -> Result<(), AllocError>
         requires within { AreWithin self.old.counts (2 ^ 62) }
         requires time { IfSome time (λ t. t < 2 ^ 61) }
@@ -389,14 +454,38 @@ impl<'a> AuditLog<'a> {
         ensures near { OnOk result (AreAllNear self.new) }
         ensures basis { self.new.basis ≡ self.old.basis }
         ensures frame { OnOk result ((past : AuditPast) → RecallsAudit self.old past
-            → TakesFrameLine self.new past time (option_copied named.entry) frame.now) }
+            → TakesFrameNew self.new past time (option_copied named.entry) frame) }
         ensures number { self.new.number ≡ self.old.number }
         ensures counted { IsLineMore self.old.counts self.new.counts }
     {
-        self.take_timed(time, frame)?;
+        self.take_timed(time, &frame)?;
         keep_interface(self.alloc, &mut self.interface, named)?;
         self.counts.frames += 1;
+        self.taken = taken_frame(time, frame, self.number, self.tally.sighting);
         Ok(())
+    }
+
+    // Takes a line that spells this frame, and names this interface.
+    fn take_frame_line(
+        &mut self,
+        time: Option<u64>,
+        named: Option<&[u8]>,
+        frame: Frame,
+    ) -> Result<(), AllocError>
+        requires within { AreWithin self.old.counts (2 ^ 62) }
+        requires time { IfSome time (λ t. t < 2 ^ 61) }
+        requires near { AreAllNear self.old }
+        ensures near { OnOk result (AreAllNear self.new) }
+        ensures basis { self.new.basis ≡ self.old.basis }
+        ensures frame { OnOk result ((past : AuditPast) → RecallsAudit self.old past
+            → TakesFrameLine self.new past time (option_copied named.entry) frame) }
+        ensures number { self.new.number ≡ self.old.number }
+        ensures counted { IsLineMore self.old.counts self.new.counts }
+    {
+        if is_again(self.basis.plan, &self.taken, time, &frame) {
+            return self.take_line_again(time, named);
+        }
+        self.take_new(time, named, frame)
     }
 
     // Takes a line.
@@ -419,7 +508,7 @@ impl<'a> AuditLog<'a> {
         match read {
             Ok(frame) => {
                 let time = line_time(self.basis.plan, time_text(line));
-                self.take_frame_line(time, named, &frame)
+                self.take_frame_line(time, named, frame)
             }
             Err(error) => self.take_fault(error),
         }

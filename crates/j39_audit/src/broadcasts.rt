@@ -125,8 +125,8 @@ impl BegunBroadcasts {
         })
     }
 
-    // Keeps this as the broadcast of a unit.
-    fn set(&mut self, basis: &Basis<'_>, unit: usize, one: Option<BegunBroadcast>)
+    /// Keeps this as the broadcast of a unit.
+    pub fn set(&mut self, basis: &Basis<'_>, unit: usize, one: Option<BegunBroadcast>)
         requires { unit < length self.old.begun.items }
         ensures { (b : SomeBroadcasts) → RecallsBroadcasts (settings_of basis.now) self.old b
             → RecallsBroadcasts (settings_of basis.now) self.new (with_one unit one b) }

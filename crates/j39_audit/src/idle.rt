@@ -12,8 +12,8 @@ const MILLION: u64 = 1_000_000;
 /// From when on moments are counted: so many microseconds before the zero of a log's times.
 pub(crate) const LONG_BEFORE: u64 = 1 << 33;
 
-// The microseconds of a bit by an exact clock.
-fn bit_us(bitrate: Bitrate) -> u8
+/// The microseconds of a bit by an exact clock.
+pub(crate) fn bit_us(bitrate: Bitrate) -> u8
     ensures value { result ≡ bit_us bitrate }
     ensures few { result ≤ 8 }
 {

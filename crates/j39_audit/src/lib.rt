@@ -2,6 +2,7 @@
 #![tactic(auto)]
 
 mod accusing;
+mod again;
 mod announcements;
 mod answer;
 mod asking;

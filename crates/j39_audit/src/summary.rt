@@ -1,6 +1,6 @@
 //! What is written of a log that was read.
 ghost use Rattle.std.specs.Prelude.{◌≡◌, ◌≤◌, ◌<◌, ◌++◌, IfOk, OnOk};
-ghost use Rattle.j39_audit.specs.AuditText.{accusation_count, accusations, accusing_at, deviations_line, flow_seen};
+ghost use Rattle.j39_audit.specs.AuditText.{accusation_count, accusations, accusing_at, again_text, deviations_line, flow_seen};
 ghost use Rattle.j39_audit.specs.AuditText.{flow_seen_line, flows_seen, groups_named, if_not_by_bus, line_reported, lines_reported, reported_mark};
 ghost use Rattle.j39_audit.specs.AuditText.{request_seen, request_seen_line, requests_seen, sorts_text, subject_count};
 ghost use Rattle.j39_audit.specs.AuditText.{subject_lines, subjects, text_by, times_of, unit_frames_line, unit_seen};
@@ -318,16 +318,28 @@ fn write_all_seen(text: &mut TextBuffer, plan: &Plan, log: &AuditLog<'_>, word: 
     Ok(())
 }
 
+// Writes how many frames stand there again, where some do.
+#[tactic(auto, unfolding(crate::specs::AuditText::again_text))]
+fn write_again(text: &mut TextBuffer, again: u64) -> WriteResult
+    ensures { OnOk result (text.new ≡ text.old ++ again_text again) }
+{
+    if again == 0 {
+        return Ok(());
+    }
+    text.field(" again ", again)
+}
+
 // Writes how many lines there were of each sort.
 #[tactic(auto, unfolding(crate::specs::AuditText::sorts_text))]
 fn write_counts(text: &mut TextBuffer, log: &AuditLog<'_>) -> WriteResult
-    ensures { OnOk result (text.new ≡ text.old ++ sorts_text log.now.basis.stamps log.now.counts (tallied log.now)) }
+    ensures { OnOk result (text.new ≡ text.old ++ sorts_text log.now.basis.stamps log.now.counts log.now.again (tallied log.now)) }
 {
     log.counts.write(text)?;
     text.field(" elsewhere ", log.counts.elsewhere)?;
     text.field(" unsure ", times_of(log, Word::Unsure, 0))?;
     text.field(" breaks ", times_of(log, Word::Break, 0))?;
     text.field(" stamps ", log.basis.stamps)?;
+    write_again(text, log.again)?;
     text.end_line()
 }
 
@@ -342,7 +354,7 @@ fn write_deviations(text: &mut TextBuffer, count: u64) -> WriteResult
 /// Writes what was found in a log, and answers how many lines accuse.
 #[tactic(auto, unfolding(crate::specs::AuditText::text_by, crate::specs::AuditText::flows_seen, crate::specs::AuditText::requests_seen, crate::specs::AuditText::units_seen))]
 pub(crate) fn write_audit(text: &mut TextBuffer, log: &AuditLog<'_>) -> Result<u64, AllocError>
-    ensures text { OnOk result (text.new ≡ text.old ++ text_by (settings_of log.now.basis) log.now.counts (tallied log.now)) }
+    ensures text { OnOk result (text.new ≡ text.old ++ text_by (settings_of log.now.basis) log.now.counts log.now.again (tallied log.now)) }
     ensures count { IfOk result (λ n. n ≡ accusation_count (settings_of log.now.basis) (tallied log.now)) }
 {
     let plan = log.basis.plan;

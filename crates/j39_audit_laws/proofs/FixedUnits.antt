@@ -184,7 +184,8 @@ module _ (s : Settings) (log : List Line) (moving : AreMoving s.plan s.moving) (
     more number past next own (count, inl passed) = subst AreOwn (sym passed.claims_are) own
     more number past next own (count, inr (inl gap)) = subst AreOwn (sym gap.claims_are) own
     more number past next own (count, inr (inr (inl bad))) = subst AreOwn (sym (ap (λ (p : AuditPast). p.claims) bad.next_is)) own
-    more number past next own (count, inr (inr (inr one))) =
+    more number past next own (count, inr (inr (inr (inr again)))) = subst AreOwn (sym again.claims_are) own
+    more number past next own (count, inr (inr (inr (inl one)))) =
         let begun : AuditPast = one.at.past in
         let t : Option ℕ = line_time s.plan one.at.time in
         let before : AreOwn begun.claims = subst AreOwn (sym (ap (λ (p : AuditPast). p.claims) one.past_is)) own in

@@ -41,8 +41,8 @@ frame_notes s past time named f packet = refl
 -- a frame is read at the line of a number
 unfoldable pub frame_at : (s : Settings) (log : List Line) (number : ℕ) (past : AuditPast) (line part : List ℕ) (named : Option (List ℕ)) (f : Frame) (time : List ℕ)
     (packet : Option Packet) → IsLineOf s log number past (ShortLine line) → IsReadHere past line part named → Spells part f → IsTimeText line time
-    → IsPacketOf f packet → IsFrameAt s log number (claims_before s past (line_time s.plan time)) f packet
-frame_at s log number past line part named f time packet line_is reads spelled time_is packet_is = record {
+    → is_again s.plan past.taken (line_time s.plan time) f ≡ false → IsPacketOf f packet → IsFrameAt s log number (claims_before s past (line_time s.plan time)) f packet
+frame_at s log number past line part named f time packet line_is reads spelled time_is new packet_is = record {
   past = past;
   line = line;
   line_is = line_is;
@@ -52,6 +52,7 @@ frame_at s log number past line part named f time packet line_is reads spelled t
   time = time;
   spelled = spelled;
   time_is = time_is;
+  new = new;
   packet_is = packet_is;
   claims_are = refl;
 }
@@ -76,6 +77,7 @@ pub record IsFramed (s : Settings) (past : AuditPast) (line : List ℕ) (next : 
   pub time : List ℕ
   pub spelled : Spells part f
   pub text : IsTimeText line time
+  pub new : is_again s.plan past.taken (line_time s.plan time) f ≡ false
   pub packet_is : IsPacketOf f packet
   pub next_is : next ≡ past_with_frame s past (line_time s.plan time) named f packet
 
@@ -102,11 +104,24 @@ passed s past line part named reads BadIdent fault next e = inl (record { noted_
 passed s past line part named reads TooLong fault next e = inl (record { noted_is = ap (λ (p : AuditPast). p.noted) e })
 passed s past line part named reads BadData fault next e = inl (record { noted_is = ap (λ (p : AuditPast). p.noted) e })
 
+-- of a frame that stands there again nothing is noted
+pub again_notes : (s : Settings) (past : AuditPast) (taken : Option TakenFrame) (time : Option ℕ) → (past_again s taken time past).noted ≡ past.noted
+unfolding past_again
+again_notes s past None time = refl
+again_notes s past (Some one) None = refl
+again_notes s past (Some one) (Some time) = refl
+
 pub taken : (s : Settings) (past : AuditPast) (line : Line) (next : AuditPast) → AuditsLine s past line next → IsTaken s past line next
 taken s past Long next e = (ap (λ (p : AuditPast). p.number) e, inl (record { noted_is = ap (λ (p : AuditPast). p.noted) e }))
 taken s past (ShortLine l) next (part, named, part_is, named_is, inl (there, e)) =
     (ap (λ (p : AuditPast). p.number) e, inl (record { noted_is = ap (λ (p : AuditPast). p.noted) e }))
-taken s past (ShortLine l) next (part, named, part_is, named_is, inr (here, inl (f, time, spelled, text, (packet, packet_is, e)))) =
+taken s past (ShortLine l) next (part, named, part_is, named_is, inr (here, inl (f, time, spelled, text, inl (again, e)))) =
+    let begun : AuditPast = with_next_number past in
+    let same = again_notes s begun begun.taken (line_time s.plan time) in (
+      ap (λ (p : AuditPast). p.number) e ∙ again_number s begun begun.taken (line_time s.plan time),
+      inl (record { noted_is = ap (λ (p : AuditPast). p.noted) e ∙ same }),
+    )
+taken s past (ShortLine l) next (part, named, part_is, named_is, inr (here, inl (f, time, spelled, text, inr (new, (packet, packet_is, e))))) =
     let begun : AuditPast = with_next_number past in (
       ap (λ (p : AuditPast). p.number) e ∙ frame_number s begun (line_time s.plan time) named f packet,
       inr (
@@ -121,6 +136,7 @@ taken s past (ShortLine l) next (part, named, part_is, named_is, inr (here, inl 
           time = time;
           spelled = spelled;
           text = text;
+          new = new;
           packet_is = packet_is;
           next_is = e;
         }),
@@ -203,7 +219,7 @@ module _ (s : Settings) (log : List Line) (m : Mark) (accuses : IsAccusing m.wor
         let t : Option ℕ = line_time s.plan at.time in
         let other : AuditPast = past_with_frame s at.past t at.named f packet in
         let is : next ≡ other = leads_there at.past at.line at.line_is other
-        (at.part, at.named, at.reads.part_is, at.reads.named_is, inr (at.reads.here, inl (f, at.time, at.spelled, at.time_is, (packet, at.packet_is, refl)))) in
+        (at.part, at.named, at.reads.part_is, at.reads.named_is, inr (at.reads.here, inl (f, at.time, at.spelled, at.time_is, inr (at.new, (packet, at.packet_is, refl))))) in
         let marks = marked_noted s (claims_before s at.past t) f packet at.past.number m.word m.subject m.group
         (subst (λ (c : HeardClaims). IsAccusedAs s c f packet m.word m.subject m.group) at.claims_are marked) in
         some_more marks.0 (notes_at s at.past t f packet)
@@ -283,7 +299,7 @@ module _ (s : Settings) (log : List Line) (m : Mark) (accuses : IsAccusing m.wor
               let (line_is, is_marked) = noted_means s claims is.f is.packet begun.number x there accused in
               let here : IsFrameAt s log number claims is.f is.packet =
               frame_at s log number begun l is.part is.named is.f is.time is.packet (subst (IsLineOf s log number begun) same is_line) is.reads is.spelled
-              is.text is.packet_is in (
+              is.text is.new is.packet_is in (
                 line_is ∙ ap (λ (k : ℕ). k + 1) count,
                 inr (
                   claims,

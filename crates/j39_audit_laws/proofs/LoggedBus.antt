@@ -179,6 +179,21 @@ module _ (s : Settings) (apart : ArePlannedApart (units_of s.plan)) (written tim
   unfolding IsRead
   time_is l at time other read there = same_Some other time (sym there ∙ read.2)
 
+  -- a line with a frame that stands there again, if one were there, would have the time of its line
+  again_time : {number : ℕ} (l : IsAgainAt s log number) (time : ℕ) → line_time s.plan l.time ≡ Some time
+      → ((number ≡ 1) × (time ≡ 1000000)) ⊎ ((number ≡ 2) × (time ≡ 1990000))
+  again_time l time at = elim (of_two first_line second_line l.line_is.before l.line l.line_is.behind l.line_is.row) [
+    | inl (many, same) ↦ inl (let number = l.line_is.number_is in omega (arith, number, many), of_text second_text 1000000 second_written l time at same)
+    | inr (many, same) ↦ inr (let number = l.line_is.number_is in omega (arith, number, many), of_text later_text 1990000 later_written l time at same)
+  ]
+    where
+      of_text : (text : List ℕ) (written_time : ℕ) (written_text : IsWrittenTime text written_time) {number : ℕ} (l : IsAgainAt s log number) (time : ℕ)
+          → line_time s.plan l.time ≡ Some time → l.line ≡ timed_line text written_time written_text frame word spells some_word whole_word → time ≡ written_time
+      of_text text written_time written_text l time at same =
+          let at_time = subst (λ (x : List ℕ). IsTimeText x l.time) same l.time_is in
+          let text_is = only_time text written_time written_text frame word spells some_word whole_word l.time at_time in
+          same_Some time written_time (sym at ∙ ap (line_time s.plan) text_is ∙ line_time_is s.plan written text written_time timed written_text)
+
   -- what holds of both frames holds of that of each line
   of_each : (P : ℕ → Type 0) {number : ℕ} (l : FrameLine s log number) → P 0 → P 1 → P (place number)
   of_each P l first second = elim (reads l) [
@@ -224,12 +239,32 @@ module _ (s : Settings) (apart : ArePlannedApart (units_of s.plan)) (written tim
     ];
   }
 
+  in_time : {a number : ℕ} (x : FrameLine s log a) (time : ℕ) (l : IsAgainAt s log number) (later : ℕ) → a < number → time_there x ≡ Some time
+      → line_time s.plan l.time ≡ Some later → time ≤ later
+  unfolding IsRead
+  in_time x time l later less at_first at = elim (again_time l later at) [
+    | inl (one, same) ↦ (let number = x.at.line_is.number_is in absurd (omega (arith, number, one, less)))
+    | inr (two, same) ↦ elim (reads x) [
+      | inl read ↦ (let first = time_is x 0 1000000 time read at_first in omega (arith, first, same))
+      | inr read ↦ (let second = time_is x 1 1990000 time read at_first in omega (arith, second, same))
+    ]
+  ]
+
   few_bytes : length frame.payload.items ≤ 8
   few_bytes = let most = of_flow.message.at_most in let short = is.short in omega (arith, most, short)
 
-  whole : IsWholeLog s log bus place
+  whole : IsWholeLog s log bus (exact_clock timing.bitrate) place
   whole = record {
-    next = λ a c x y less between. in_order (IsNextTo bus) x y less (next_one timing.bitrate bus_ident);
+    repeats = λ number. true;
+    next = λ a c time shown y less between. elim shown [
+      | inl (x, at) ↦ in_order (IsNextTo bus) x y less (next_one timing.bitrate bus_ident)
+      | inr (l, once, at) ↦ absurd (true≢false once)
+    ];
+    more = λ number time l once at. absurd (true≢false once);
+    repeated = λ a number time later l shown less between repeats at. elim shown [
+      | inl (x, at_first) ↦ in_time x time l later less at_first at
+      | inr (x, once, at_first) ↦ absurd (true≢false once)
+    ];
     bytes = λ number l. subst (λ (g : Frame). length g.payload.items ≤ 8) (sym (read_frame l)) few_bytes;
     bits = λ number l. omega arith;
   }
@@ -248,10 +283,40 @@ module _ (s : Settings) (apart : ArePlannedApart (units_of s.plan)) (written tim
   second_past : AuditPast
   second_past = past_with_frame s (with_next_number first_past) (line_time s.plan later_text) None frame packet
 
+  -- neither stands there again
+  first_new : is_again s.plan (with_next_number nothing_read).taken (line_time s.plan second_text) frame ≡ false
+  unfolding is_again
+  first_new = refl
+
+  too_late : (bitrate : Bitrate) (bytes : ℕ) → bytes ≤ 8 → nat_lt (1990000 - 1000000) (bit_us bitrate * (67 + 8 * bytes)) ≡ false
+  too_late Kbit125 bytes few = le-ltb (bit_us Kbit125 * (67 + 8 * bytes)) 990000 (omega (arith, few))
+  too_late Kbit250 bytes few = le-ltb (bit_us Kbit250 * (67 + 8 * bytes)) 990000 (omega (arith, few))
+  too_late Kbit500 bytes few = le-ltb (bit_us Kbit500 * (67 + 8 * bytes)) 990000 (omega (arith, few))
+  too_late Mbit1 bytes few = le-ltb (bit_us Mbit1 * (67 + 8 * bytes)) 990000 (omega (arith, few))
+
+  second_new : is_again s.plan (with_next_number first_past).taken (line_time s.plan later_text) frame ≡ false
+  unfolding first_past is_again
+  second_new =
+      let start : AuditPast = with_next_number nothing_read in
+      let w : Sighting = sighted_behind nothing_sighted (noted_newly s start (line_time s.plan second_text) frame packet) in
+      let one : TakenFrame = record { frame = frame; time = 1000000; line = 1; flow = w.flow; unit = w.unit } in
+      let taken : first_past.taken ≡ Some one = taken_with s start (line_time s.plan second_text) None frame packet
+      ∙ ap (λ (o : Option ℕ). taken_frame o frame 1 w) (line_time_is s.plan written second_text 1000000 timed second_written) in
+      let same : Bool = is_same_frame frame frame in
+      let late : Bool = nat_le 1000000 1990000 && nat_lt (1990000 - 1000000) (bit_us written.bitrate * (67 + 8 * length frame.payload.items)) in
+      ap (λ (o : Option TakenFrame). is_again s.plan o (line_time s.plan later_text) frame) taken
+      ∙ ap (λ (o : Option ℕ). is_again s.plan (Some one) o frame) (line_time_is s.plan written later_text 1990000 timed later_written)
+      ∙ ap (λ (o : Option Timing). option_map_or (λ (t : Timing). is_again_behind t one 1990000 frame) o false) timed
+      ∙ and_false_right same late (and_false_right (nat_le 1000000 1990000) _ (too_late written.bitrate (length frame.payload.items) few_bytes))
+    where
+      and_false_right : (a b : Bool) → b ≡ false → (a && b) ≡ false
+      and_false_right true b is = is
+      and_false_right false b is = refl
+
   audits_line : (text : List ℕ) (time : ℕ) (written_text : IsWrittenTime text time) (past : AuditPast)
-      → AuditsLine s past (Short (timed_line text time written_text frame word spells some_word whole_word))
+      → is_again s.plan past.taken (line_time s.plan text) frame ≡ false → AuditsLine s past (Short (timed_line text time written_text frame word spells some_word whole_word))
       (past_with_frame s (with_next_number past) (line_time s.plan text) None frame packet)
-  audits_line text time written_text past = (
+  audits_line text time written_text past new = (
     timed_line text time written_text frame word spells some_word whole_word,
     None,
     read_part text time written_text frame word spells some_word whole_word,
@@ -263,18 +328,18 @@ module _ (s : Settings) (apart : ArePlannedApart (units_of s.plan)) (written tim
         text,
         spelled text time written_text frame word spells some_word whole_word,
         time_text text time written_text frame word spells some_word whole_word,
-        (packet, packet_is, refl),
+        inr (new, (packet, packet_is, refl)),
       ),
     ),
   )
 
   first_read : AuditsLines s nothing_read (Short first_line ∷ []) first_past
   unfolding first_past
-  first_read = (first_past, audits_line second_text 1000000 second_written nothing_read, refl)
+  first_read = (first_past, audits_line second_text 1000000 second_written nothing_read first_new, refl)
 
   both_read : AuditsLines s nothing_read log second_past
   unfolding first_past second_past
-  both_read = (first_past, audits_line second_text 1000000 second_written nothing_read, (second_past, audits_line later_text 1990000 later_written first_past, refl))
+  both_read = (first_past, audits_line second_text 1000000 second_written nothing_read first_new, (second_past, audits_line later_text 1990000 later_written first_past second_new, refl))
 
   first_at : IsFrameAt s log 1 (claims_before s (with_next_number nothing_read) (line_time s.plan second_text)) frame packet
   first_at = record {
@@ -291,6 +356,7 @@ module _ (s : Settings) (apart : ArePlannedApart (units_of s.plan)) (written tim
     time = second_text;
     spelled = spelled second_text 1000000 second_written frame word spells some_word whole_word;
     time_is = time_text second_text 1000000 second_written frame word spells some_word whole_word;
+    new = first_new;
     packet_is = packet_is;
     claims_are = refl;
   }
@@ -310,6 +376,7 @@ module _ (s : Settings) (apart : ArePlannedApart (units_of s.plan)) (written tim
     time = later_text;
     spelled = spelled later_text 1990000 later_written frame word spells some_word whole_word;
     time_is = time_text later_text 1990000 later_written frame word spells some_word whole_word;
+    new = second_new;
     packet_is = packet_is;
     claims_are = refl;
   }

@@ -197,7 +197,11 @@ module _ (s : Settings) (log : List Line) (t : Timing) (timed : s.plan.timing �
       let all : Moments = all_pauses_ended b past.by_load in
       subst (IsKept (number + 1)) (sym (ap (λ (p : AuditPast). p.by_load) bad.next_is))
       (with_gap (number + 1) all (kept_on number past.by_load all (frames.all_near b t timed n past.by_load) is))
-  more number past next is (count, inr (inr (inr one))) = by_frame number past next one is
+  more number past next is (count, inr (inr (inr (inl one)))) = by_frame number past next one is
+  more number past next is (count, inr (inr (inr (inr again)))) =
+      subst (IsKept (number + 1)) (sym again.load_is)
+      (same_so_far s log place is_message IsUpper IsLower b t timed n step none_of_these number past.by_load
+      (moments_again s again.taken.flow again.time past.by_load) refl refl is)
 
   pub never_stated : (end : AuditPast) → AuditsLines s nothing_read log end → (look_at (log_ended s end) (mark_at NearOrLate n 0)).times ≡ 0
   unfolding reported_at

@@ -59,7 +59,7 @@ module _ (s : Settings) (log : List Line) (t : Timing) (timed : s.plan.timing �
     (bus : Schedule) (damaged : Damaged) (held : Held) (release clock place : ℕ → ℕ) (n ms : ℕ) (is_message : ℕ → Bool)
     (keeps : KeepsTime (bit_time t.bitrate) clock) (errors : IsBusWithErrors bus damaged) (short : (p : ℕ) → p < bus.count → bus.bits p ≤ 160)
     (few : AreFew damaged (damaged_at_once t)) (part : KeepsItsPeriod s.plan (with_claims s.plan t) bus held n ms release is_message)
-    (is_log : IsLogOfBus s log bus clock place) (whole : IsWholeLog s log bus place) (seen : AreSeenAs s log place n is_message) where
+    (is_log : IsLogOfBus s log bus clock place) (whole : IsWholeLog s log bus clock place) (seen : AreSeenAs s log place n is_message) where
   abbrev timing : Timing
   timing = with_claims s.plan t
 
@@ -160,9 +160,15 @@ module _ (s : Settings) (log : List Line) (t : Timing) (timed : s.plan.timing �
   abbrev IsKept : ℕ → Moments → Type 0
   IsKept number m = IsSoFar s log place is_message IsUpper IsLower s t timed n step none_of_these number m
 
-  -- the last frame, with nothing behind it that counts, has this time
+  -- the last line that shows a frame has this time, or an earlier one
   abbrev IsLastAt : ℕ → ℕ → Type 0
-  IsLastAt number τ = (a : ℕ) × (l : FrameLine s log a) × (time_there l ≡ Some τ) × (a ≤ number) × ((k : ℕ) → a < k → k ≤ number → IsPassedOver s log k)
+  IsLastAt number τ =
+      (a : ℕ) × (σ : ℕ) × ShowsFrameAt s log whole.repeats a σ × (σ ≤ τ) × (a ≤ number) × ShowNone s log whole.repeats a (number + 1)
+
+  -- it is a time of its end
+  time_shown : (a σ : ℕ) → ShowsFrameAt s log whole.repeats a σ → IsTimeOf clock (logger_error s) σ (frame_end bus (place a))
+  time_shown a σ (inl (l, at)) = is_log.times a σ l at
+  time_shown a σ (inr (l, once, at)) = whole.more a σ l once at
 
   -- an idle mark that a line up to this one shows
   record IsShownMark (number q : ℕ) : Type 0 where
@@ -193,6 +199,29 @@ module _ (s : Settings) (log : List Line) (t : Timing) (timed : s.plan.timing �
     shows = is.shows;
     is = is.is;
   }
+
+  -- with one line more that shows none
+  none_more : (a number : ℕ) → ShowNone s log whole.repeats a (number + 1) → ShowsNone s log whole.repeats (number + 1)
+      → ShowNone s log whole.repeats a (number + 1 + 1)
+  none_more a number over none k after until = elim (cases_eq k (number + 1)) [
+    | inl here ↦ subst (ShowsNone s log whole.repeats) (sym here) none
+    | inr apart ↦ over k after (omega (arith, until, apart))
+  ]
+
+  -- a frame that stands there again shows one more of the bus, or repeats the last one
+  last_again : (number : ℕ) (l : IsAgainAt s log (number + 1)) (time : ℕ) → line_time s.plan l.time ≡ Some time → ((τ : ℕ) × IsLastAt number τ)
+      → IsLastAt (number + 1) time
+  last_again number l time at (τ, a, σ, shown, early, below, over) = elim (cases_Bool (whole.repeats (number + 1))) [
+    | inl repeats ↦ (
+      a,
+      σ,
+      shown,
+      whole.repeated a (number + 1) σ time l shown (omega (arith, below)) over repeats at,
+      omega (arith, below),
+      none_more a number over (inr (l, repeats)),
+    )
+    | inr once ↦ (number + 1, time, inr (l, once, at), omega arith, omega arith, λ k after until. absurd (omega (arith, after, until)))
+  ]
 
   kept_on : (number : ℕ) (m new : Moments) → frames.IsAsNear s t timed n m new → IsKept number m → IsKept (number + 1) new
   kept_on number m new same is = same_so_far s log place is_message IsUpper IsLower s t timed n step none_of_these number m new same.earliest same.noted is
@@ -275,8 +304,8 @@ module _ (s : Settings) (log : List Line) (t : Timing) (timed : s.plan.timing �
             → IsShownMark (number + 1) (idle_mark s t bytes time)
         by_last None e test = absurd (true≢false (sym test))
         by_last (Some τ) e test =
-            let (a, k, timed_at, below, over) = start_last τ e in
-            let from = is_log.times a τ k timed_at in
+            let (a, σ, k, early, below, over) = start_last τ e in
+            let from = time_shown a σ k in
             let to = is_log.times (number + 1) time l at in
             let from_low = from.0 in
             let from_high = from.1 in
@@ -290,15 +319,15 @@ module _ (s : Settings) (log : List Line) (t : Timing) (timed : s.plan.timing �
               below = omega arith;
               bytes = bytes;
               one = place a;
-              before = τ + long_before;
+              before = σ + long_before;
               time = time + long_before;
               shows = record {
-                next = whole.next a (number + 1) k l (omega (arith, below)) (λ i after until. over i after (omega (arith, until)));
+                next = whole.next a (number + 1) σ k l (omega (arith, below)) over;
                 short = whole.bytes (number + 1) l;
                 bits = whole.bits (number + 1) l;
                 time_before = (omega (arith, from_low), omega (arith, from_high));
                 time_of = (omega (arith, to_low), omega (arith, to_high));
-                apart = omega (arith, less, same);
+                apart = omega (arith, less, same, early);
               };
               is = omega (arith, same);
             }
@@ -340,7 +369,7 @@ module _ (s : Settings) (log : List Line) (t : Timing) (timed : s.plan.timing �
           ];
           last = λ τ e.
               let same : time ≡ τ = same_Some time τ (sym marks.1 ∙ e) in
-              (number + 1, l, at ∙ ap Some same, omega arith, λ k after until. absurd (omega (arith, after, until)));
+              (number + 1, time, inl (l, at), omega (arith, same), omega arith, λ k after until. absurd (omega (arith, after, until)));
           mark = mark;
         }
       where
@@ -400,45 +429,99 @@ module _ (s : Settings) (log : List Line) (t : Timing) (timed : s.plan.timing �
         (λ x is same. (let (u, at) = packet_mark s.plan.timing (counted_for s one.at.past time one.f one.packet) one.f
         (broadcasts_there s one.at.past time one.f) x is in packet_apart u (sym at ∙ same))) held_there)
 
+  -- where a frame came that may stand there again, the line before has a time
+  abbrev IsTimed : AuditPast → Type 0
+  IsTimed past = (one : TakenFrame) → past.taken ≡ Some one → (τ : ℕ) × (past.moments.before ≡ Some τ)
+
+  timed_frame : (number : ℕ) (past next : AuditPast) → IsFrameNext s log (number + 1) past next → IsTimed next
+  timed_frame number past next one =
+      let l : FrameLine s log (number + 1) = record { claims = one.claims; f = one.f; packet = one.packet; at = one.at } in
+      let q : AuditPast = one.at.past in
+      let there : frames.FrameThere = frames.frame_there l in
+      let with_frame : Option ℕ → Moments = λ time.
+      moments_behind s there.gap there.anew time one.f q.number there.notes there.ending past.moments in
+      let stream : Option ℕ → Option MessageStream = λ time.
+      packet_with s.plan.timing (counted_for s q time one.f one.packet) one.f (broadcasts_there s q time one.f) in
+      let time : Option ℕ = time_there l in
+      let taken_is : next.taken ≡ taken_frame time one.f q.number (sighted_behind nothing_sighted (noted_newly s q time one.f one.packet)) =
+      ap (λ (p : AuditPast). p.taken) one.next_is ∙ taken_with s q time one.at.named one.f one.packet in
+      let before : next.moments.before ≡ (with_frame time).before = ap (λ (p : AuditPast). p.moments.before) one.next_is
+      ∙ ap (λ (m : Moments). m.before) (moments_with s q time one.at.named one.f one.packet)
+      ∙ packet_before time q.number (stream time) (moments_with_frame s s q time one.f one.packet q.moments)
+      ∙ ap (λ (p : AuditPast). (moments_with_frame s s q time one.f one.packet p.moments).before) one.past_is in
+      λ taken is. by_time l past.moments there time refl taken (sym taken_is ∙ is) before
+    where
+      packet_before : (time : Option ℕ) (line : ℕ) (o : Option MessageStream) (m : Moments) → (with_packet_stream s time line o m).before ≡ m.before
+      packet_before None line o m = refl
+      packet_before (Some τ) line None m = refl
+      packet_before (Some τ) line (Some x) m = refl
+
+      by_time : {at : ℕ} (l : FrameLine s log at) (m : Moments) (there : frames.FrameThere) (time : Option ℕ) → time_there l ≡ time → (taken : TakenFrame)
+          → taken_frame time l.f l.at.past.number (sighted_behind nothing_sighted (noted_newly s l.at.past (time_there l) l.f l.packet)) ≡ Some taken
+          → next.moments.before ≡ (moments_behind s there.gap there.anew time there.f there.line there.notes there.ending m).before
+          → (τ : ℕ) × (next.moments.before ≡ Some τ)
+      by_time l m there None at taken is before = absurd (none-some taken is)
+      by_time l m there (Some τ) at taken is before = (τ, before ∙ (frames.timed_frame s t timed n there τ m).0.1)
+
   abbrev Holds : ℕ → AuditPast → Type 0
-  Holds number past = IsHeld number past.moments
+  Holds number past = IsHeld number past.moments × IsTimed past
 
   more : (number : ℕ) (past next : AuditPast) → Holds number past → IsNext s log (number + 1) past next → Holds (number + 1) next
-  more number past next is (count, inl passed) =
-      let same : frames.IsAsNear s t timed n past.moments past.moments = record { earliest = refl; noted = refl; since = refl; before = refl } in
-      subst (IsHeld (number + 1)) (sym passed.moments_are) (record {
-        kept = kept_on number past.moments past.moments same is.kept;
-        last = λ τ e.
-            let (a, l, at, below, over) = is.last τ e in (
-              a,
-              l,
-              at,
-              omega (arith, below),
-              λ k after until. elim (cases_eq k (number + 1)) [
-                | inl here ↦ subst (IsPassedOver s log) (sym here) passed.over
-                | inr apart ↦ over k after (omega (arith, until, apart))
-              ],
-            );
-        mark = λ q e. later_mark number q (is.mark q e);
-      })
-  more number past next is (count, inr (inl gap)) =
-      let same : frames.IsAsNear s t timed n past.moments past.moments = record { earliest = refl; noted = refl; since = refl; before = refl } in
-      subst (IsHeld (number + 1)) (sym gap.moments_are) (gap_held (number + 1) past.moments (kept_on number past.moments past.moments same is.kept))
-  more number past next is (count, inr (inr (inl bad))) =
-      let all : Moments = all_pauses_ended s past.moments in
-      subst (IsHeld (number + 1)) (sym (ap (λ (p : AuditPast). p.moments) bad.next_is))
-      (gap_held (number + 1) all (kept_on number past.moments all (frames.all_near s t timed n past.moments) is.kept))
-  more number past next is (count, inr (inr (inr one))) = by_frame number past next one is
+  more number past next (is, is_timed) (count, inl passed) =
+      let same : frames.IsAsNear s t timed n past.moments past.moments = record { earliest = refl; noted = refl; since = refl; before = refl } in (
+        subst (IsHeld (number + 1)) (sym passed.moments_are) (record {
+          kept = kept_on number past.moments past.moments same is.kept;
+          last = λ τ e.
+              let (a, σ, l, early, below, over) = is.last τ e in (
+                a,
+                σ,
+                l,
+                early,
+                omega (arith, below),
+                none_more a number over (inl passed.over),
+              );
+          mark = λ q e. later_mark number q (is.mark q e);
+        }),
+        λ one taken.
+        let (τ, before) = is_timed one (sym passed.taken_is ∙ taken) in
+        (τ, ap (λ (m : Moments). m.before) passed.moments_are ∙ before),
+      )
+  more number past next (is, is_timed) (count, inr (inl gap)) =
+      let same : frames.IsAsNear s t timed n past.moments past.moments = record { earliest = refl; noted = refl; since = refl; before = refl } in (
+        subst (IsHeld (number + 1)) (sym gap.moments_are) (gap_held (number + 1) past.moments (kept_on number past.moments past.moments same is.kept)),
+        λ one taken. absurd (none-some one (sym gap.taken_is ∙ taken)),
+      )
+  more number past next (is, is_timed) (count, inr (inr (inl bad))) =
+      let all : Moments = all_pauses_ended s past.moments in (
+        subst (IsHeld (number + 1)) (sym (ap (λ (p : AuditPast). p.moments) bad.next_is))
+            (gap_held (number + 1) all (kept_on number past.moments all (frames.all_near s t timed n past.moments) is.kept)),
+        λ one taken. absurd (none-some one (sym (ap (λ (p : AuditPast). p.taken) bad.next_is) ∙ taken)),
+      )
+  more number past next (is, is_timed) (count, inr (inr (inr (inl one)))) = (by_frame number past next one is, timed_frame number past next one)
+  more number past next (is, is_timed) (count, inr (inr (inr (inr again)))) =
+      let new : Moments = moments_again s again.taken.flow again.time past.moments in
+      let (last_time, before) = is_timed again.taken again.taken_is in (
+        subst (IsHeld (number + 1)) (sym again.moments_are) (record {
+          kept = same_so_far s log place is_message IsUpper IsLower s t timed n step none_of_these number past.moments new refl refl is.kept;
+          last = λ τ e. subst (IsLastAt (number + 1)) (same_Some again.time τ e)
+              (last_again number again.at again.time again.time_is (last_time, is.last last_time before));
+          mark = λ q e. later_mark number q (is.mark q e);
+        }),
+        λ one taken. (again.time, ap (λ (m : Moments). m.before) again.moments_are),
+      )
 
   pub never_near : (end : AuditPast) → AuditsLines s nothing_read log end → (look_at (log_ended s end) (mark_at NearFlow n 0)).times ≡ 0
   unfolding reported_at
   never_near end read =
-      let first : Holds 0 nothing_read = record {
-        kept = first_so_far s log place is_message IsUpper IsLower s t timed n step none_of_these nothing_read.moments refl refl;
-        last = λ τ e. absurd (none-some τ e);
-        mark = λ q e. absurd (none-some q e);
-      } in
-      let is = at_end s log Holds more end first read in
+      let first : Holds 0 nothing_read = (
+        record {
+          kept = first_so_far s log place is_message IsUpper IsLower s t timed n step none_of_these nothing_read.moments refl refl;
+          last = λ τ e. absurd (none-some τ e);
+          mark = λ q e. absurd (none-some q e);
+        },
+        λ one taken. absurd (none-some one taken),
+      ) in
+      let is = (at_end s log Holds more end first read).0 in
       ap (λ (l : List Noted). (occurrences_of l).times) ((frames.all_near s t timed n end.moments).noted ∙ is.kept.none)
 
 pub periods_not_near : PeriodsAreNotNear

@@ -23,8 +23,11 @@ one_packet_of f None None a b = refl
 
 one_frame : (s : Settings) (past : AuditPast) (time : List ℕ) (named : Option (List ℕ)) (f : Frame) (next other : AuditPast)
     → AuditsFrame s past time named f next → AuditsFrame s past time named f other → next ≡ other
-one_frame s past time named f next other a b =
-    a.2 ∙ ap (past_with_frame s past (line_time s.plan time) named f) (one_packet_of f a.0 b.0 a.1 b.1) ∙ sym b.2
+one_frame s past time named f next other (inl (_, a)) (inl (_, b)) = a ∙ sym b
+one_frame s past time named f next other (inl (again, a)) (inr (new, b)) = absurd (true≢false (sym again ∙ new))
+one_frame s past time named f next other (inr (new, a)) (inl (again, b)) = absurd (true≢false (sym again ∙ new))
+one_frame s past time named f next other (inr (_, (p, p_is, a))) (inr (_, (q, q_is, b))) =
+    a ∙ ap (past_with_frame s past (line_time s.plan time) named f) (one_packet_of f p q p_is q_is) ∙ sym b
 
 one_part_read : (s : Settings) (past : AuditPast) (line part : List ℕ) (named : Option (List ℕ)) (next other : AuditPast)
     → AuditsPart s past line part named next → AuditsPart s past line part named other → next ≡ other

@@ -99,9 +99,9 @@ last_of_it : (s : Settings) (claims : HeardClaims) (front heard : List Frame) (u
 last_of_it s claims front heard u a are newest =
     let behind : claims_of s.plan [] (front ++ heard) ≡ claims_of s.plan [] heard ++ claims_of s.plan [] front =
     claims_behind_those s.plan [] front heard ∙ claims_stay s.plan (claims_of s.plan [] front) heard in
-    let of_all : IsNewest u claims.all a =
-    subst (λ (l : List Heard). IsNewest u l a) (sym are.all_are)
-    (newest_front u (claims_of s.plan [] heard) (claims_of s.plan [] front) a (subst (λ (l : List Heard). IsNewest u l a) behind newest)) in
+    let of_heard : IsNewest u (claims_of s.plan [] heard) a =
+    newest_front u (claims_of s.plan [] heard) (claims_of s.plan [] front) a (subst (λ (l : List Heard). IsNewest u l a) behind newest) in
+    let of_all : IsNewest u claims.all a = subst (λ (o : Option ℕ). (o ≡ None) ⊎ (o ≡ Some a)) (sym (are.newest_are u)) of_heard in
     let of_recent : IsNewest u claims.recent a =
     newest_front u claims.recent are.older a (subst (λ (l : List Heard). IsNewest u l a) are.recent_are of_all) in
     elim (s.part) as (λ p. ((if p then None else newest_of u (if moves s u then claims.recent else claims.all)) ≡ None)

@@ -68,15 +68,16 @@ elsewhere_on interface part named log frames there (inr (inr (e, has, other, res
 
 -- ---- lines one after another
 
--- the claims so far are those of these frames, and those from the last break on are the newest of them
+-- of these frames the newest claims of units are those so far, which lack only what stands there again; and those from the last break on are the newest
+-- of them
 pub record AreClaimsOf (s : Settings) (claims : HeardClaims) (heard : List Frame) : Type 0 where
-  pub all_are : claims.all ≡ claims_of s.plan [] heard
+  pub newest_are : (u : ℕ) → newest_of u claims.all ≡ newest_of u (claims_of s.plan [] heard)
   pub older : List Heard
   pub recent_are : claims.all ≡ claims.recent ++ older
 
 pub break_claims : (s : Settings) (claims : HeardClaims) (heard : List Frame) (broken : Bool) → AreClaimsOf s claims heard
     → AreClaimsOf s (broken_off broken claims) heard
-break_claims s claims heard true are = record { all_are = are.all_are; older = claims.all; recent_are = refl }
+break_claims s claims heard true are = record { newest_are = are.newest_are; older = claims.all; recent_are = refl }
 break_claims s claims heard false are = are
 
 more_claims : (s : Settings) (claims : HeardClaims) (heard : List Frame) (f : Frame) → AreClaimsOf s claims heard
@@ -87,12 +88,45 @@ more_claims s claims heard f are =
     elim (is_claim f) as (λ b. claims_of s.plan [] (heard ++ f ∷ []) ≡ cond b (heard_of s.plan f ∷ claims_of s.plan [] heard) (claims_of s.plan [] heard)
     → AreClaimsOf s (cond b (with_claim (heard_of s.plan f) claims) claims) (heard ++ f ∷ [])) [
       | true ↦ λ e. record {
-        all_are = ap (λ (l : List Heard). heard_of s.plan f ∷ l) are.all_are ∙ sym e;
+        newest_are = λ u. both_newest u (heard_of s.plan f) claims.all (claims_of s.plan [] heard) (are.newest_are u) ∙ ap (newest_of u) (sym e);
         older = are.older;
         recent_are = ap (λ (l : List Heard). heard_of s.plan f ∷ l) are.recent_are;
       }
-      | false ↦ λ e. record { all_are = are.all_are ∙ sym e; older = are.older; recent_are = are.recent_are }
+      | false ↦ λ e. record { newest_are = λ u. are.newest_are u ∙ ap (newest_of u) (sym e); older = are.older; recent_are = are.recent_are }
     ] behind
+  where
+    both_newest : (u : ℕ) (h : Heard) (xs ys : List Heard) → newest_of u xs ≡ newest_of u ys → newest_of u (h ∷ xs) ≡ newest_of u (h ∷ ys)
+    unfolding newest_of
+    both_newest u h xs ys same = ap (λ (o : Option ℕ). if is_at h.unit u then Some h.source else o) same
+
+-- with a frame that is heard again, of which the claim, if it is one, is the newest
+again_claims : (s : Settings) (claims : HeardClaims) (heard : List Frame) (f : Frame) → AreClaimsOf s claims heard
+    → (is_claim f ≡ true → (rest : List Heard) × (claims.all ≡ heard_of s.plan f ∷ rest)) → AreClaimsOf s claims (heard ++ f ∷ [])
+again_claims s claims heard f are newest =
+    let behind : claims_of s.plan [] (heard ++ f ∷ []) ≡ cond (is_claim f) (heard_of s.plan f ∷ claims_of s.plan [] heard) (claims_of s.plan [] heard) =
+    claims_behind_those s.plan [] heard (f ∷ []) in
+    record {
+      newest_are = λ u. elim (cases_Bool (is_claim f)) [
+        | inl claim ↦
+            let (rest, at) = newest claim in
+            let row : claims_of s.plan [] (heard ++ f ∷ []) ≡ heard_of s.plan f ∷ claims_of s.plan [] heard = behind ∙ cond-true (is_claim f) _ _ claim in
+            once_more u (heard_of s.plan f) rest claims.all (claims_of s.plan [] heard) at (are.newest_are u) ∙ ap (newest_of u) (sym row)
+        | inr other ↦ are.newest_are u ∙ ap (newest_of u) (sym (behind ∙ cond-false (is_claim f) _ _ other))
+      ];
+      older = are.older;
+      recent_are = are.recent_are;
+    }
+  where
+    once_more : (u : ℕ) (h : Heard) (rest xs ys : List Heard) → xs ≡ h ∷ rest → newest_of u xs ≡ newest_of u ys → newest_of u xs ≡ newest_of u (h ∷ ys)
+    unfolding newest_of
+    once_more u h rest xs ys row same =
+        elim (is_at h.unit u) as (λ b. is_at h.unit u ≡ b → newest_of u xs ≡ cond b (Some h.source) (newest_of u ys)) [
+          | true ↦ λ e. ap (newest_of u) row ∙ cond-true (is_at h.unit u) (Some h.source) (newest_of u rest) e
+          | false ↦ λ e. same
+        ] refl
+
+abbrev pub IsNewestClaim : Settings → HeardClaims → Frame → Type 0
+IsNewestClaim s claims f = is_claim f ≡ true → (rest : List Heard) × (claims.all ≡ heard_of s.plan f ∷ rest)
 
 -- behind some lines these frames were read, and those are still to be read of the rest
 pub record AreRead (s : Settings) (past : AuditPast) (rest : List Line) (frames : List Frame) : Type 0 where
@@ -100,25 +134,69 @@ pub record AreRead (s : Settings) (past : AuditPast) (rest : List Line) (frames 
   pub left : List Frame
   pub row : frames ≡ heard ++ left
   pub claims_are : AreClaimsOf s past.claims heard
+  -- the claim of the frame before, if it is one, is the newest
+  pub newest : (one : TakenFrame) → past.taken ≡ Some one → IsNewestClaim s past.claims one.frame
   pub reads : AreReadAs past.interface rest left
 
 same_read : (s : Settings) (past next : AuditPast) (rest : List Line) (frames : List Frame) (r : AreRead s past rest frames) (more : List Line)
-    → next.claims ≡ past.claims → next.interface ≡ past.interface → AreReadAs past.interface more r.left → AreRead s next more frames
-same_read s past next rest frames r more claims interface reads = record {
+    → next.claims ≡ past.claims → next.interface ≡ past.interface → (next.taken ≡ None) ⊎ (next.taken ≡ past.taken)
+    → AreReadAs past.interface more r.left → AreRead s next more frames
+same_read s past next rest frames r more claims interface taken reads = record {
   heard = r.heard;
   left = r.left;
   row = r.row;
   claims_are = subst (λ (c : HeardClaims). AreClaimsOf s c r.heard) (sym claims) r.claims_are;
+  newest = λ one is. elim taken [
+    | inl none ↦ absurd (none-some one (sym none ∙ is))
+    | inr same ↦ subst (λ (c : HeardClaims). IsNewestClaim s c one.frame) (sym claims) (r.newest one (sym same ∙ is))
+  ];
   reads = subst (λ (i : Option (List ℕ)). AreReadAs i more r.left) (sym interface) reads;
 }
 
 passed_claims : (s : Settings) (e : LineError) (past : AuditPast) → ((passed_by s e past).claims ≡ past.claims) × ((passed_by s e past).interface ≡ past.interface)
-passed_claims s Empty past = (refl, refl)
-passed_claims s NoHash past = (refl, refl)
-passed_claims s ShortIdent past = (refl, refl)
-passed_claims s BadIdent past = (refl, refl)
-passed_claims s TooLong past = (refl, refl)
-passed_claims s BadData past = (refl, refl)
+    × (((passed_by s e past).taken ≡ None) ⊎ ((passed_by s e past).taken ≡ past.taken))
+passed_claims s Empty past = (refl, refl, inr refl)
+passed_claims s NoHash past = (refl, refl, inl refl)
+passed_claims s ShortIdent past = (refl, refl, inl refl)
+passed_claims s BadIdent past = (refl, refl, inl refl)
+passed_claims s TooLong past = (refl, refl, inl refl)
+passed_claims s BadData past = (refl, refl, inl refl)
+
+-- a frame that stands there again leaves the claims, the one before it, and that line's interface
+record IsAgainRead (past next : AuditPast) (named : Option (List ℕ)) : Type 0 where
+  claims : next.claims ≡ past.claims
+  interface : next.interface ≡ interface_behind past.interface named
+  taken : next.taken ≡ past.taken
+
+again_read : (s : Settings) (past : AuditPast) (time : Option ℕ) (named : Option (List ℕ)) → IsAgainRead past (past_with_again s time named past) named
+again_read s past time named =
+    let same = of_taken past.taken time in
+    record { claims = same.0; interface = refl; taken = same.1 }
+  where
+    of_taken : (taken : Option TakenFrame) (time : Option ℕ) → ((past_again s taken time past).claims ≡ past.claims) × ((past_again s taken time past).taken ≡ past.taken)
+    unfolding past_again
+    of_taken None time = (refl, refl)
+    of_taken (Some one) None = (refl, refl)
+    of_taken (Some one) (Some τ) = (refl, refl)
+
+-- it is the one before
+same_as_before : (plan : Plan) (taken : Option TakenFrame) (time : Option ℕ) (f : Frame) → is_again plan taken time f ≡ true
+    → (one : TakenFrame) × (taken ≡ Some one) × (one.frame ≡ f)
+unfolding is_again
+same_as_before plan None time f is = absurd (true≢false (sym is))
+same_as_before plan (Some one) None f is = absurd (true≢false (sym is))
+same_as_before plan (Some one) (Some τ) f is =
+    elim (plan.timing) as (λ o. option_map_or (λ (t : Timing). is_again_behind t one τ f) o false ≡ true → (other : TakenFrame) × (Some one ≡ Some other) × (other.frame ≡ f)) [
+      | None ↦ λ e. absurd (true≢false (sym e))
+      | Some t ↦ λ e.
+          let same = (and_parts (is_same_frame one.frame f) (is_too_soon t f one.time τ) e).0 in
+          let parts = and_parts (bits one.frame.ident == bits f.ident) (bytes_eq one.frame.payload.items f.payload.items) same in (
+            one,
+            refl,
+            same_frame one.frame f (eqb-true (bits one.frame.ident) (bits f.ident) parts.0)
+                ((bytes_eq-Decides one.frame.payload.items f.payload.items).0 parts.1),
+          )
+    ] is
 
 frame_claims : (s : Settings) (past : AuditPast) (time : Option ℕ) (named : Option (List ℕ)) (f : Frame) (packet : Option Packet)
     → ((past_with_frame s past time named f packet).claims ≡ claims_behind s f (claims_before s past time))
@@ -126,18 +204,47 @@ frame_claims : (s : Settings) (past : AuditPast) (time : Option ℕ) (named : Op
 unfolding past_with_frame
 frame_claims s past time named f packet = (refl, refl)
 
+taken_of : (time : Option ℕ) (f : Frame) (line : ℕ) (w : Sighting) (one : TakenFrame) → taken_frame time f line w ≡ Some one → one.frame ≡ f
+taken_of None f line w one is = absurd (none-some one is)
+taken_of (Some τ) f line w one is = sym (ap (λ (x : TakenFrame). x.frame) (same_Some _ one is))
+
 pub read_more : (s : Settings) (past : AuditPast) (line : Line) (next : AuditPast) (more : List Line) (frames : List Frame) → AuditsLine s past line next
     → AreRead s past (line ∷ more) frames → AreRead s next more frames
 read_more s past Long next more frames e r =
-    same_read s past next (Long ∷ more) frames r more (ap (λ (p : AuditPast). p.claims) e) (ap (λ (p : AuditPast). p.interface) e) r.reads
+    same_read s past next (Long ∷ more) frames r more (ap (λ (p : AuditPast). p.claims) e) (ap (λ (p : AuditPast). p.interface) e)
+    (inl (ap (λ (p : AuditPast). p.taken) e)) r.reads
 read_more s past (ShortLine l) next more frames (part, named, part_is, named_is, inl (there, e)) r =
     same_read s past next (ShortLine l ∷ more) frames r more (ap (λ (p : AuditPast). p.claims) e) (ap (λ (p : AuditPast). p.interface) e)
+    (inr (ap (λ (p : AuditPast). p.taken) e))
     (elsewhere_on past.interface part named more r.left there (reads_on past.interface l part named more r.left part_is named_is r.reads))
 read_more s past (ShortLine l) next more frames (part, named, part_is, named_is, inr (here, inr (fault, has, e))) r =
     let same = passed_claims s fault (with_next_number past) in
     same_read s past next (ShortLine l ∷ more) frames r more (ap (λ (p : AuditPast). p.claims) e ∙ same.0) (ap (λ (p : AuditPast). p.interface) e ∙ same.1)
+    (elim (same.2) [
+      | inl none ↦ inl (ap (λ (p : AuditPast). p.taken) e ∙ none)
+      | inr stays ↦ inr (ap (λ (p : AuditPast). p.taken) e ∙ stays)
+    ])
     (passed_on past.interface part named more r.left fault here has (reads_on past.interface l part named more r.left part_is named_is r.reads))
-read_more s past (ShortLine l) next more frames (part, named, part_is, named_is, inr (here, inl (f, time, spelled, text, (packet, packet_is, e)))) r =
+read_more s past (ShortLine l) next more frames (part, named, part_is, named_is, inr (here, inl (f, time, spelled, text, inl (again, e)))) r =
+    let begun : AuditPast = with_next_number past in
+    let t : Option ℕ = line_time s.plan time in
+    let (left, row, reads) = next_frame past.interface part named more r.left f here spelled
+    (reads_on past.interface l part named more r.left part_is named_is r.reads) in
+    let kept = again_read s begun t named in
+    let (one, taken, same) = same_as_before s.plan past.taken t f again in
+    let claims : next.claims ≡ past.claims = ap (λ (p : AuditPast). p.claims) e ∙ kept.claims in
+    let interface : next.interface ≡ interface_behind past.interface named = ap (λ (p : AuditPast). p.interface) e ∙ kept.interface in
+    let newest : IsNewestClaim s past.claims f = subst (IsNewestClaim s past.claims) same (r.newest one taken) in
+    record {
+      heard = r.heard ++ f ∷ [];
+      left = left;
+      row = r.row ∙ ap (λ (x : List Frame). r.heard ++ x) row ∙ sym (append_assoc r.heard (f ∷ []) left);
+      claims_are = subst (λ (c : HeardClaims). AreClaimsOf s c (r.heard ++ f ∷ [])) (sym claims) (again_claims s past.claims r.heard f r.claims_are newest);
+      newest = λ other is. subst (λ (c : HeardClaims). IsNewestClaim s c other.frame) (sym claims)
+          (r.newest other (sym (ap (λ (p : AuditPast). p.taken) e ∙ kept.taken) ∙ is));
+      reads = subst (λ (i : Option (List ℕ)). AreReadAs i more left) (sym interface) reads;
+    }
+read_more s past (ShortLine l) next more frames (part, named, part_is, named_is, inr (here, inl (f, time, spelled, text, inr (new, (packet, packet_is, e))))) r =
     let begun : AuditPast = with_next_number past in
     let t : Option ℕ = line_time s.plan time in
     let (left, row, reads) = next_frame past.interface part named more r.left f here spelled
@@ -151,6 +258,15 @@ read_more s past (ShortLine l) next more frames (part, named, part_is, named_is,
       row = r.row ∙ ap (λ (x : List Frame). r.heard ++ x) row ∙ sym (append_assoc r.heard (f ∷ []) left);
       claims_are = subst (λ (c : HeardClaims). AreClaimsOf s c (r.heard ++ f ∷ [])) (sym claims)
           (more_claims s (claims_before s begun t) r.heard f (break_claims s past.claims r.heard (breaks s.stamps past.newest t) r.claims_are));
+      newest = λ one is.
+          let w = sighted_behind nothing_sighted (noted_newly s begun t f packet) in
+          let its : one.frame ≡ f = taken_of t f begun.number w one (sym (ap (λ (p : AuditPast). p.taken) e ∙ taken_with s begun t named f packet) ∙ is) in
+          subst (λ (g : Frame). IsNewestClaim s next.claims g) (sym its)
+          (subst (λ (c : HeardClaims). IsNewestClaim s c f) (sym claims) (λ claim. (
+            (claims_before s begun t).all,
+            ap (λ (c : HeardClaims). c.all)
+                (cond-true (is_claim f) (with_claim (heard_of s.plan f) (claims_before s begun t)) (claims_before s begun t) claim),
+          )));
       reads = subst (λ (i : Option (List ℕ)). AreReadAs i more left) (sym interface) reads;
     }
 
@@ -166,11 +282,18 @@ module _ (s : Settings) (log : List Line) (frames : List Frame) (reads : AreRead
   at_line : (number : ℕ) (past : AuditPast) (line : Line) (is : IsLineOf s log number past line) → AreRead s past (line ∷ is.behind) frames
   at_line number past line is =
       let start : AreRead s nothing_read log frames =
-      record { heard = []; left = frames; row = refl; claims_are = record { all_are = refl; older = []; recent_are = refl }; reads = reads } in
+      record {
+        heard = [];
+        left = frames;
+        row = refl;
+        claims_are = record { newest_are = λ u. refl; older = []; recent_are = refl };
+        newest = λ one is. absurd (none-some one is);
+        reads = reads;
+      } in
       let r = all_read s nothing_read is.before is.just (line ∷ is.behind) frames is.read
       (subst (λ (l : List Line). AreRead s nothing_read l frames) is.row start) in
       same_read s is.just past (line ∷ is.behind) frames r (line ∷ is.behind) (ap (λ (p : AuditPast). p.claims) is.past_is)
-      (ap (λ (p : AuditPast). p.interface) is.past_is) r.reads
+      (ap (λ (p : AuditPast). p.interface) is.past_is) (inr (ap (λ (p : AuditPast). p.taken) is.past_is)) r.reads
 
   -- the frame is one of them, and the claims before it are those of the ones before it
   pub record IsOneOfThem (claims : HeardClaims) (f : Frame) : Type 0 where

@@ -31,6 +31,14 @@ use Rattle.j39_audit_laws.proofs.PauseFrames as frames
 use Rattle.j39_audit_laws.proofs.PauseSteps.{AreShown, IsLate, IsOpen, IsStated, Watched, all_keep, all_stated, bound, reported_on}
 use Rattle.j39_audit_laws.proofs.Walk.{IsFrameNext, IsNext, IsNoFrame, at_end, bad_no_frame, inside_log, load_with, one_frame_at}
 
+-- where a frame stands there again that was of another flow or of none, the newest message of this one stays
+newest_of_others : (flow : Option ℕ) (moment : ℕ) (newest : ℕ → Option Newest) (n : ℕ) → flow ≢ Some n → newest_again flow moment newest n ≡ newest n
+newest_of_others None moment newest n other = refl
+newest_of_others (Some k) moment newest n other = elim (newest k) as (λ o. newest_later k moment o newest n ≡ newest n) [
+  | None ↦ refl
+  | Some one ↦ cond-false (k == n) (Some (with_later_moment moment one)) (newest n) (ne_eqb k n (λ same. other (ap Some same)))
+]
+
 cases_le : (m n : ℕ) → (m ≤ n) ⊎ (n < m)
 cases_le m n = grind arith
 
@@ -345,7 +353,9 @@ module _ (plain : Settings) (log : List Line) (t : Timing) (timed : plain.plan.t
   stays_reported number past next (count, inr (inr (inl bad))) stated =
       let all = reported_on s w past.by_load (all_pauses_ended s past.by_load) (all_keep s past.by_load) stated in
       subst (IsStated s w) (sym (ap (λ (p : AuditPast). p.by_load) bad.next_is)) (record { note = all.note; noted = all.noted; mark_is = all.mark_is })
-  stays_reported number past next (count, inr (inr (inr one))) stated =
+  stays_reported number past next (count, inr (inr (inr (inr again)))) stated =
+      subst (IsStated s w) (sym again.load_is) (record { note = stated.note; noted = stated.noted; mark_is = stated.mark_is })
+  stays_reported number past next (count, inr (inr (inr (inl one)))) stated =
       subst (IsStated s w) (sym (load_next number past next one))
       (reported_on s w past.by_load _ (frames.frame_keeps plain w _ _ _ one.f one.at.past.number _ _ past.by_load) stated)
 
@@ -366,7 +376,15 @@ module _ (plain : Settings) (log : List Line) (t : Timing) (timed : plain.plan.t
       let stated = all_stated s w past.by_load is.opened (all_shown number past.by_load after is) in
       inr (inl (subst (IsStated s w) (sym (ap (λ (p : AuditPast). p.by_load) bad.next_is))
       (record { note = stated.note; noted = stated.noted; mark_is = stated.mark_is })))
-  goes_more number past next at (count, inr (inr (inr one))) first goes is =
+  goes_more number past next at (count, inr (inr (inr (inr again)))) first goes is =
+      let inside : number + 1 ≤ length log = inside_log plain log (number + 1) again.at.past (ShortLine again.at.line) again.at.line_is in
+      let up_to : number + 1 ≤ long.until = elim goes [ inl all ↦ omega (arith, inside, all) | inr less ↦ omega (arith, less) ] in
+      let other : again.taken.flow ≢ Some n = λ its. long.none_again (number + 1) (omega (arith, first)) up_to
+      (record { at = again.at; taken = again.taken; taken_is = ap (λ (q : AuditPast). q.taken) again.past_is ∙ again.taken_is; flow = its }) in
+      passes_on number past next again.no_frame again.not_bad
+      (ap (λ (m : Moments). m.newest n) again.load_is ∙ newest_of_others again.taken.flow (again.time + long_before + e) past.by_load.newest n other)
+      (λ u. ap (λ (m : Moments). m.last u) again.load_is) first goes is
+  goes_more number past next at (count, inr (inr (inr (inl one)))) first goes is =
       let q : ℕ = number + 1 in
       let counted : past.number + 1 ≡ q = ap (λ (k : ℕ). k + 1) at in
       let load = load_next number past next one in
@@ -392,7 +410,8 @@ module _ (plain : Settings) (log : List Line) (t : Timing) (timed : plain.plan.t
         | inl passed ↦ absurd (frame_there passed.no_frame)
         | inr (inl gap) ↦ absurd (frame_there gap.no_frame)
         | inr (inr (inl bad)) ↦ absurd (frame_there (bad_no_frame plain log (number + 1) bad.bad))
-        | inr (inr (inr one)) ↦
+        | inr (inr (inr (inr again))) ↦ absurd (frame_there again.no_frame)
+        | inr (inr (inr (inl one))) ↦
             let q : ℕ = number + 1 in
             let counted : past.number + 1 ≡ q = ap (λ (k : ℕ). k + 1) at in
             let new : Moments = moments_with_frame s plain one.at.past (line_time plain.plan one.at.time) one.f one.packet past.by_load in

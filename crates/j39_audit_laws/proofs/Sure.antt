@@ -97,13 +97,23 @@ module _ (s : Settings) (log : List Line) where
       at.reads.here (subst (λ (x : AuditPast). IsElsewhere x.interface at.part at.named) (sym one.1)
       (subst (λ (x : Option (List ℕ)). IsElsewhere past.interface at.part x) (sym name)
       (subst (λ (x : List ℕ). IsElsewhere past.interface x named) (sym same) elsewhere))))
-  line_kind n past (ShortLine l) next (part, named, part_is, named_is, inr (here, inl (f, time, spelled, text, (packet, packet_is, e)))) is =
+  line_kind n past (ShortLine l) next (part, named, part_is, named_is, inr (here, inl (f, time, spelled, text, inl (again, e)))) is = inr (λ found.
+      let at = found.3 in
+      let one = one_line n at.past (with_next_number past) (ShortLine at.line) (ShortLine l) at.line_is is in
+      let line : at.line ≡ l = cc (one.0) in
+      let same : at.part ≡ part = one_part l at.part part (subst (λ (x : List ℕ). IsReadPart x at.part) line at.reads.part_is) part_is in
+      let frame : found.1 ≡ f = one_spelled part found.1 f (subst (λ (x : List ℕ). Spells x found.1) same at.spelled) spelled in
+      let at_time : at.time ≡ time = one_time l at.time time (subst (λ (x : List ℕ). IsTimeText x at.time) line at.time_is) text in
+      true≢false (sym again ∙ sym (ap (λ (q : AuditPast). is_again s.plan q.taken (line_time s.plan at.time) found.1) one.1
+      ∙ ap (λ (x : List ℕ). is_again s.plan past.taken (line_time s.plan x) found.1) at_time
+      ∙ ap (λ (g : Frame). is_again s.plan past.taken (line_time s.plan time) g) frame) ∙ at.new))
+  line_kind n past (ShortLine l) next (part, named, part_is, named_is, inr (here, inl (f, time, spelled, text, inr (new, (packet, packet_is, e))))) is =
       inl (
         claims_before s (with_next_number past) (line_time s.plan time),
         f,
         packet,
         frame_at s log n (with_next_number past) l part named f time packet is (record { part_is = part_is; named_is = named_is; here = here }) spelled text
-            packet_is,
+            new packet_is,
       )
   line_kind n past (ShortLine l) next (part, named, part_is, named_is, inr (here, inr (fault, has, e))) is = inr (λ found.
       let at = found.3 in

@@ -118,7 +118,8 @@ module _ (s : Settings) (log : List Line) (moving : AreMoving s.plan s.moving) (
       (words_both is_sure_word past.noted (noted_if (nat_lt 0 past.frames) (noted_at (past.number + 1) Short 0 0)) sure
       (words_if is_sure_word (noted_at (past.number + 1) Short 0 0) (nat_lt 0 past.frames) refl))
   more number past next sure (count, inr (inr (inl bad))) = subst AreSure (sym (ap (λ (p : AuditPast). p.noted) bad.next_is)) sure
-  more number past next sure (count, inr (inr (inr one))) =
+  more number past next sure (count, inr (inr (inr (inr again)))) = subst AreSure (sym again.noted_is) sure
+  more number past next sure (count, inr (inr (inr (inl one)))) =
       let q : AuditPast = one.at.past in
       let t : Option ℕ = line_time s.plan one.at.time in
       let own = own_there s log moving fixed planned (number + 1) one.claims one.f one.packet one.at in

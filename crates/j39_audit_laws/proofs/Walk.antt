@@ -33,6 +33,13 @@ pub load_with : (s : Settings) (past : AuditPast) (time : Option ℕ) (named : O
 unfolding past_with_frame
 load_with s past time named f packet = refl
 
+-- and which it is
+pub taken_with : (s : Settings) (past : AuditPast) (time : Option ℕ) (named : Option (List ℕ)) (f : Frame) (packet : Option Packet)
+    → (past_with_frame s past time named f packet).taken
+    ≡ taken_frame time f past.number (sighted_behind nothing_sighted (noted_newly s past time f packet))
+unfolding past_with_frame
+taken_with s past time named f packet = refl
+
 -- and by the bus
 pub moments_with : (s : Settings) (past : AuditPast) (time : Option ℕ) (named : Option (List ℕ)) (f : Frame) (packet : Option Packet)
     → (past_with_frame s past time named f packet).moments
@@ -40,6 +47,20 @@ pub moments_with : (s : Settings) (past : AuditPast) (time : Option ℕ) (named 
     (moments_with_frame s s past time f packet past.moments)
 unfolding past_with_frame
 moments_with s past time named f packet = refl
+
+-- one that stands there again has one before it, and a time
+again_parts : (plan : Plan) (taken : Option TakenFrame) (time : Option ℕ) (f : Frame) → is_again plan taken time f ≡ true
+    → (one : TakenFrame) × (τ : ℕ) × (taken ≡ Some one) × (time ≡ Some τ)
+unfolding is_again
+again_parts plan None time f is = absurd (true≢false (sym is))
+again_parts plan (Some one) None f is = absurd (true≢false (sym is))
+again_parts plan (Some one) (Some τ) f is = (one, τ, refl, refl)
+
+again_with : (s : Settings) (past : AuditPast) (taken : Option TakenFrame) (time : Option ℕ) (one : TakenFrame) (τ : ℕ) → taken ≡ Some one
+    → time ≡ Some τ → past_again s taken time past ≡ with_again s one.flow one.unit one.line τ past
+unfolding past_again
+again_with s past taken time one τ taken_is time_is =
+    ap (λ (o : Option TakenFrame). past_again s o time past) taken_is ∙ ap (λ (o : Option ℕ). past_again s (Some one) o past) time_is
 
 module _ (s : Settings) (log : List Line) where
   -- ---- a line is read in one way
@@ -150,6 +171,26 @@ module _ (s : Settings) (log : List Line) where
       reads.here (is_elsewhere (one_part_at number past q line l part other named i is
       (record { line_is = at; part_is = reads.part_is; named_is = reads.named_is })) there)
 
+  -- nor is one of a frame that stands there again
+  again_part : (number : ℕ) (one : IsAgainAt s log number) → IsPartAt number one.past one.line one.part one.named
+  again_part number one = record { line_is = one.line_is; part_is = one.reads.part_is; named_is = one.reads.named_is }
+
+  pub again_no_frame : (number : ℕ) → IsAgainAt s log number → IsNoFrame number
+  again_no_frame number one claims f packet at =
+      let same = one_part_at number at.past one.past at.line one.line at.part one.part at.named one.named (part_of at) (again_part number one) in
+      let frame : f ≡ one.f = one_spelled one.part f one.f (subst (λ (l : List ℕ). Spells l f) same.part_is at.spelled) one.spelled in
+      let time : at.time ≡ one.time = one_time one.line at.time one.time (subst (λ (l : List ℕ). IsTimeText l at.time) same.line_is at.time_is) one.time_is in
+      true≢false (sym one.again ∙ sym (ap (λ (q : AuditPast). is_again s.plan q.taken (line_time s.plan at.time) f) same.past_is
+      ∙ ap (λ (x : List ℕ). is_again s.plan one.past.taken (line_time s.plan x) f) time
+      ∙ ap (λ (g : Frame). is_again s.plan one.past.taken (line_time s.plan one.time) g) frame) ∙ at.new)
+
+  again_not_bad : (number : ℕ) → IsAgainAt s log number → ¬ IsBadAt s log number
+  again_not_bad number one (inl (q, long)) = absurd (cc (one_place number one.past q (ShortLine one.line) Long one.line_is long).1)
+  again_not_bad number one (inr (q, l, at, other, i, d, reads, has, full, long)) =
+      let same = one_part_at number one.past q one.line l one.part other one.named i (again_part number one)
+      (record { line_is = at; part_is = reads.part_is; named_is = reads.named_is }) in
+      not_both other one.f d (subst (λ (x : List ℕ). Spells x one.f) same.part_is one.spelled) has
+
   -- ---- what a line does
 
   -- it changes nothing, or it is skipped
@@ -160,6 +201,7 @@ module _ (s : Settings) (log : List Line) where
     pub no_frame : IsNoFrame number
     pub not_bad : ¬ IsBadAt s log number
     pub claims_are : next.claims ≡ past.claims
+    pub taken_is : next.taken ≡ past.taken
     pub load_is : next.by_load ≡ past.by_load
 
   pub record IsGap (number : ℕ) (past next : AuditPast) : Type 0 where
@@ -168,6 +210,7 @@ module _ (s : Settings) (log : List Line) where
     pub no_frame : IsNoFrame number
     pub not_bad : ¬ IsBadAt s log number
     pub claims_are : next.claims ≡ past.claims
+    pub taken_is : next.taken ≡ None
     pub load_is : next.by_load ≡ behind_gap past.by_load
 
   pub record IsBadNext (number : ℕ) (past next : AuditPast) : Type 0 where
@@ -182,8 +225,25 @@ module _ (s : Settings) (log : List Line) where
     pub past_is : at.past ≡ with_next_number past
     pub next_is : next ≡ past_with_frame s at.past (line_time s.plan at.time) at.named f packet
 
+  -- a frame stands there again, and what times report changes as by this one before
+  pub record IsAgainNext (number : ℕ) (past next : AuditPast) : Type 0 where
+    pub at : IsAgainAt s log number
+    pub past_is : at.past ≡ with_next_number past
+    pub taken : TakenFrame
+    pub taken_is : past.taken ≡ Some taken
+    pub time : ℕ
+    pub time_is : line_time s.plan at.time ≡ Some time
+    pub noted_is : next.noted ≡ past.noted
+    pub claims_are : next.claims ≡ past.claims
+    pub moments_are : next.moments ≡ moments_again s taken.flow time past.moments
+    pub load_is : next.by_load ≡ moments_again s taken.flow time past.by_load
+    pub no_frame : IsNoFrame number
+    pub not_bad : ¬ IsBadAt s log number
+
   abbrev pub IsKind : ℕ → AuditPast → AuditPast → Type 0
-  IsKind number past next = IsPassed number past next ⊎ (IsGap number past next ⊎ (IsBadNext number past next ⊎ IsFrameNext number past next))
+  IsKind number past next =
+      IsPassed number past next
+      ⊎ (IsGap number past next ⊎ (IsBadNext number past next ⊎ (IsFrameNext number past next ⊎ IsAgainNext number past next)))
 
   abbrev pub IsNext : ℕ → AuditPast → AuditPast → Type 0
   IsNext number past next = (next.number ≡ past.number + 1) × IsKind number past next
@@ -221,6 +281,7 @@ module _ (s : Settings) (log : List Line) where
           no_frame = faulty counted begun l part named Empty there fault;
           not_bad = not_bad counted begun l part named Empty there fault (inl refl);
           claims_are = ap (λ (p : AuditPast). p.claims) is;
+          taken_is = ap (λ (p : AuditPast). p.taken) is;
           load_is = ap (λ (p : AuditPast). p.by_load) is;
         })
     a_fault l part named ShortIdent same reads fault is =
@@ -232,12 +293,48 @@ module _ (s : Settings) (log : List Line) where
           no_frame = faulty counted begun l part named ShortIdent there fault;
           not_bad = not_bad counted begun l part named ShortIdent there fault (inr refl);
           claims_are = ap (λ (p : AuditPast). p.claims) is;
+          taken_is = ap (λ (p : AuditPast). p.taken) is;
           load_is = ap (λ (p : AuditPast). p.by_load) is;
         }))
     a_fault l part named NoHash same reads fault is = a_bad_one l part named NoHash same reads fault (λ e. cc e) (λ e. cc e) is
     a_fault l part named BadIdent same reads fault is = a_bad_one l part named BadIdent same reads fault (λ e. cc e) (λ e. cc e) is
     a_fault l part named TooLong same reads fault is = a_bad_one l part named TooLong same reads fault (λ e. cc e) (λ e. cc e) is
     a_fault l part named BadData same reads fault is = a_bad_one l part named BadData same reads fault (λ e. cc e) (λ e. cc e) is
+
+    an_again : (l part : List ℕ) (named : Option (List ℕ)) (f : Frame) (time : List ℕ) → line ≡ ShortLine l → IsReadHere begun l part named → Spells part f
+        → IsTimeText l time → is_again s.plan past.taken (line_time s.plan time) f ≡ true → next ≡ past_with_again s (line_time s.plan time) named begun
+        → IsAgainNext counted past next
+    an_again l part named f time same reads spelled text again e =
+        let at : IsAgainAt s log counted = record {
+          past = begun;
+          line = l;
+          line_is = short_line l same;
+          part = part;
+          named = named;
+          reads = reads;
+          f = f;
+          time = time;
+          spelled = spelled;
+          time_is = text;
+          again = again;
+        } in
+        let (taken, τ, taken_is, time_is) = again_parts s.plan past.taken (line_time s.plan time) f again in
+        let became : past_again s past.taken (line_time s.plan time) begun ≡ with_again s taken.flow taken.unit taken.line τ begun =
+        again_with s begun past.taken (line_time s.plan time) taken τ taken_is time_is in
+        record {
+          at = at;
+          past_is = refl;
+          taken = taken;
+          taken_is = taken_is;
+          time = τ;
+          time_is = time_is;
+          noted_is = ap (λ (p : AuditPast). p.noted) e ∙ ap (λ (p : AuditPast). p.noted) became;
+          claims_are = ap (λ (p : AuditPast). p.claims) e ∙ ap (λ (p : AuditPast). p.claims) became;
+          moments_are = ap (λ (p : AuditPast). p.moments) e ∙ ap (λ (p : AuditPast). p.moments) became;
+          load_is = ap (λ (p : AuditPast). p.by_load) e ∙ ap (λ (p : AuditPast). p.by_load) became;
+          no_frame = again_no_frame counted at;
+          not_bad = again_not_bad counted at;
+        }
 
     one_next : (x : Line) → line ≡ x → AuditsLine s past x next → IsNext counted past next
     unfolding frame_at
@@ -255,20 +352,25 @@ module _ (s : Settings) (log : List Line) where
             no_frame = elsewhere_no_frame counted begun l part named is there;
             not_bad = elsewhere_not_bad counted begun l part named is there;
             claims_are = ap (λ (p : AuditPast). p.claims) e;
+            taken_is = ap (λ (p : AuditPast). p.taken) e;
             load_is = ap (λ (p : AuditPast). p.by_load) e;
           }),
         )
-    one_next (ShortLine l) same (part, named, part_is, named_is, inr (here, inl (f, time, spelled, text, (packet, packet_is, e)))) = (
+    one_next (ShortLine l) same (part, named, part_is, named_is, inr (here, inl (f, time, spelled, text, inl (again, e)))) = (
+      ap (λ (p : AuditPast). p.number) e ∙ again_number s begun past.taken (line_time s.plan time),
+      inr (inr (inr (inr (an_again l part named f time same (record { part_is = part_is; named_is = named_is; here = here }) spelled text again e)))),
+    )
+    one_next (ShortLine l) same (part, named, part_is, named_is, inr (here, inl (f, time, spelled, text, inr (new, (packet, packet_is, e))))) = (
       ap (λ (p : AuditPast). p.number) e ∙ frame_number s begun (line_time s.plan time) named f packet,
-      inr (inr (inr (record {
+      inr (inr (inr (inl (record {
         claims = claims_before s begun (line_time s.plan time);
         f = f;
         packet = packet;
         at = frame_at s log counted begun l part named f time packet (short_line l same) (record { part_is = part_is; named_is = named_is; here = here })
-            spelled text packet_is;
+            spelled text new packet_is;
         past_is = refl;
         next_is = e;
-      }))),
+      })))),
     )
     one_next (ShortLine l) same (part, named, part_is, named_is, inr (here, inr (fault, has, e))) = (
       ap (λ (p : AuditPast). p.number) e ∙ as_many_lines s fault begun,

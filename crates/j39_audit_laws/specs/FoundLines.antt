@@ -42,8 +42,8 @@ pub record IsReadHere (past : AuditPast) (line part : List ℕ) (named : Option 
   pub named_is : NamesInterface part named
   pub here : ¬ IsElsewhere past.interface part named
 
--- the line of this number is read as this frame, which is this transport packet or none, and these are the claims
--- before it
+-- the line of this number is read as this frame, which doesn't stand there again, and is this transport packet or none, and these are
+-- the claims before it
 pub record IsFrameAt (s : Settings) (log : List Line) (number : ℕ) (claims : HeardClaims) (f : Frame) (packet : Option Packet) : Type 0 where
   pub past : AuditPast
   pub line : List ℕ
@@ -54,6 +54,7 @@ pub record IsFrameAt (s : Settings) (log : List Line) (number : ℕ) (claims : H
   pub time : List ℕ
   pub spelled : Spells part f
   pub time_is : IsTimeText line time
+  pub new : is_again s.plan past.taken (line_time s.plan time) f ≡ false
   pub packet_is : IsPacketOf f packet
   pub claims_are : claims ≡ claims_before s past (line_time s.plan time)
 

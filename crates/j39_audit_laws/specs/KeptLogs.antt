@@ -23,7 +23,7 @@ use Rattle.j39_audit.specs.declared.by_load.Bound.TheVariants.{Bus}
 use Rattle.j39_audit.specs.declared.mark.Word.TheVariants.{NearFlow, NearOrLate}
 use Rattle.j39_audit_laws.specs.ByLoad.{AreOfFlow}
 use Rattle.j39_audit_laws.specs.MarkRecords.{AreFew, IsNextTo, IsTimeOf, KeepsTime}
-use Rattle.j39_audit_laws.specs.PauseLines.{FrameLine, IsPassedOver, IsSeenOf, time_there}
+use Rattle.j39_audit_laws.specs.PauseLines.{FrameLine, IsAgainAt, IsPassedOver, IsSeenOf, time_there}
 
 -- each frame that is read of a log is one that has ended on a bus, in the order of their ends, and its time is that of its end, within the logger's error;
 -- frames of the bus may be missing
@@ -55,10 +55,29 @@ pub record AreLogsNotNear (s : Settings) (timing : Timing) (delays : List (Optio
 
 -- ---- by the bus
 
--- nothing that the bus carried is missing between two frames with nothing but lines between them that are passed over; and a frame has eight bytes at
--- most, and takes as many bits as these may need
-pub record IsWholeLog (s : Settings) (log : List Line) (bus : Schedule) (place : ℕ → ℕ) : Type 0 where
-  pub next : (a c : ℕ) → FrameLine s log a → FrameLine s log c → a < c → ((k : ℕ) → a < k → k < c → IsPassedOver s log k) → IsNextTo bus (place a) (place c)
+-- a line of this time shows a frame of the bus: it is read as one; or as one that stands there again, and doesn't repeat the frame before, so that the bus
+-- carried two
+abbrev pub ShowsFrameAt : Settings → List Line → (ℕ → Bool) → ℕ → ℕ → Type 0
+ShowsFrameAt s log repeats number time =
+    ((l : FrameLine s log number) × (time_there l ≡ Some time))
+    ⊎ ((l : IsAgainAt s log number) × (repeats number ≡ false) × (line_time s.plan l.time ≡ Some time))
+
+-- it shows none: it is passed over, or repeats the frame before
+abbrev pub ShowsNone : Settings → List Line → (ℕ → Bool) → ℕ → Type 0
+ShowsNone s log repeats number = IsPassedOver s log number ⊎ (IsAgainAt s log number × (repeats number ≡ true))
+
+abbrev pub ShowNone : Settings → List Line → (ℕ → Bool) → ℕ → ℕ → Type 0
+ShowNone s log repeats a c = (k : ℕ) → a < k → k < c → ShowsNone s log repeats k
+
+-- nothing that the bus carried is missing between two frames with nothing but lines between them that show none; and a frame has eight bytes at
+-- most, and takes as many bits as these may need. What stands there again may repeat the frame before, no earlier than this, or be one more of the bus
+pub record IsWholeLog (s : Settings) (log : List Line) (bus : Schedule) (clock : ℕ → ℕ) (place : ℕ → ℕ) : Type 0 where
+  pub repeats : ℕ → Bool
+  pub next : (a c time : ℕ) → ShowsFrameAt s log repeats a time → FrameLine s log c → a < c → ShowNone s log repeats a c → IsNextTo bus (place a) (place c)
+  pub more : (number time : ℕ) (l : IsAgainAt s log number) → repeats number ≡ false → line_time s.plan l.time ≡ Some time
+      → IsTimeOf clock (logger_error s) time (frame_end bus (place number))
+  pub repeated : (a number time later : ℕ) (l : IsAgainAt s log number) → ShowsFrameAt s log repeats a time → a < number
+      → ShowNone s log repeats a number → repeats number ≡ true → line_time s.plan l.time ≡ Some later → time ≤ later
   pub bytes : (number : ℕ) (l : FrameLine s log number) → length l.f.payload.items ≤ 8
   pub bits : (number : ℕ) (l : FrameLine s log number) → bus.bits (place number) ≤ 80 + 10 * length l.f.payload.items
 
@@ -83,5 +102,5 @@ PeriodsAreNotNear = (s : Settings) (log : List Line) (timing : Timing) (bus : Sc
     (is_message : ℕ → Bool) (end : AuditPast) → timing_of s.plan ≡ Some timing → s.bound ≡ Bus → timing.drift ≡ 0
     → KeepsTime (bit_time timing.bitrate) clock → IsBusWithErrors bus damaged → ((p : ℕ) → p < bus.count → bus.bits p ≤ 160)
     → AreFew damaged (option_map_or (λ (e : ErrorRate). e.count) timing.errors 0) → KeepsItsPeriod s.plan timing bus held n ms release is_message
-    → IsLogOfBus s log bus clock place → IsWholeLog s log bus place → AreSeenAs s log place n is_message → AuditsLines s nothing_read log end
+    → IsLogOfBus s log bus clock place → IsWholeLog s log bus clock place → AreSeenAs s log place n is_message → AuditsLines s nothing_read log end
     → (look_at (log_ended s end) (mark_at NearFlow n 0)).times ≡ 0

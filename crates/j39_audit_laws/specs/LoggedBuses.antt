@@ -62,7 +62,7 @@ pub record CanBeLogged (s : Settings) (timing : Timing) (f : ℕ) (frame : Frame
   pub clock : ℕ → ℕ
   pub keeps_time : KeepsTime (bit_time timing.bitrate) clock
   pub logged : IsLogOfBus s log bus.s clock place
-  pub whole : IsWholeLog s log bus.s place
+  pub whole : IsWholeLog s log bus.s clock place
   pub its_own : (u : ℕ) → AreItsOwn s log (λ number. wire.unit (place number)) u
   pub ms : ℕ
   pub period : KeepsItsPeriod s.plan timing bus.s bus.held f ms bus.sent.release (λ p. true)

@@ -46,6 +46,27 @@ pub record FrameLine (s : Settings) (log : List Line) (number : ℕ) : Type 0 wh
 abbrev pub time_there : {s : Settings} {log : List Line} {number : ℕ} → FrameLine s log number → Option ℕ
 time_there {s} l = line_time s.plan l.at.time
 
+-- it is read as a frame that stands there again
+pub record IsAgainAt (s : Settings) (log : List Line) (number : ℕ) : Type 0 where
+  pub past : AuditPast
+  pub line : List ℕ
+  pub line_is : IsLineOf s log number past (ShortLine line)
+  pub part : List ℕ
+  pub named : Option (List ℕ)
+  pub reads : IsReadHere past line part named
+  pub f : Frame
+  pub time : List ℕ
+  pub spelled : Spells part f
+  pub time_is : IsTimeText line time
+  pub again : is_again s.plan past.taken (line_time s.plan time) f ≡ true
+
+-- of a frame before that was seen of this flow
+pub record IsAgainOf (s : Settings) (log : List Line) (number n : ℕ) : Type 0 where
+  pub at : IsAgainAt s log number
+  pub taken : TakenFrame
+  pub taken_is : at.past.taken ≡ Some taken
+  pub flow : taken.flow ≡ Some n
+
 -- ---- what a frame is
 
 -- it is seen of this flow, as one of its messages, by the plan

@@ -18,7 +18,7 @@ use Rattle.j39_audit.specs.declared.streams.FlowPause.{FlowPause}
 use Rattle.j39_audit.specs.declared.tally.Occurrences.{Occurrences}
 use Rattle.j39_audit_laws.specs.FoundForSure.{IsWrittenIn}
 use Rattle.j39_audit_laws.specs.MarkRecords.{IsTimeOf, KeepsTime}
-use Rattle.j39_audit_laws.specs.PauseLines.{CountsFor, EndsPauseAt, FrameLine, IsMessageAt, IsSeenOf, StandsForMessage, time_there}
+use Rattle.j39_audit_laws.specs.PauseLines.{CountsFor, EndsPauseAt, FrameLine, IsAgainOf, IsMessageAt, IsSeenOf, StandsForMessage, time_there}
 
 -- an end of the flow: its sender, or its one receiver
 abbrev pub IsEndOfFlow : FlowPlan → ℕ → Type 0
@@ -62,6 +62,8 @@ pub record IsLongSilent (s : Settings) (t : Timing) (log : List Line) (us : ℕ)
   pub from_last : last ≤ until
   pub comes : (length log ≤ until) ⊎ (IsMessageAt s log until n ⊎ EndsPauseAt s log until n)
   pub none_stands : (number : ℕ) (l : FrameLine s log number) → first < number → number ≤ until → ¬ StandsForMessage l n
+  -- nor does one of its messages stand there again
+  pub none_again : (number : ℕ) → first < number → number ≤ until → ¬ IsAgainOf s log number n
 
 -- each such flow of a log is accused of it: by the bus, or by load alone
 abbrev pub SilentAreFound : Type 0

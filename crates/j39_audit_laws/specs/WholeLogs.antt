@@ -19,7 +19,7 @@ use Rattle.j39_audit_laws.specs.MarkRecords.{KeepsTime}
 -- no line `near` or `near_or_late` is written of a flow each message of which goes in one frame, and of which a response time is reported
 abbrev pub IsNearNowhere : Settings → Timing → List (Option Delay) → Schedule → (ℕ → Bool) → FrameSources → Type 0
 IsNearNowhere s timing delays bus planned sent = (log : List Line) (clock place : ℕ → ℕ) (n bits ms : ℕ) (is_message : ℕ → Bool) (end : AuditPast)
-    → KeepsTime (bit_time timing.bitrate) clock → IsLogOfBus s log bus clock place → IsWholeLog s log bus place → IsReportedBound delays n bits
+    → KeepsTime (bit_time timing.bitrate) clock → IsLogOfBus s log bus clock place → IsWholeLog s log bus clock place → IsReportedBound delays n bits
     → IsSingleFlow s.plan n → HasPeriodMs s.plan n ms → AreOfFlow planned sent n is_message → AreSeenAs s log place n is_message
     → AuditsLines s nothing_read log end → subject_lines s (look_at (log_ended s end)) NearFlow n ≡ []
 

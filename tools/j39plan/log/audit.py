@@ -41,8 +41,8 @@ LINES: dict[str, list[Form]] = {
     "flow": [form_of("flow {#flow} {group} {from} {to} seen {#seen} unclear {#unclear}")],
     "request": [form_of("request {#request} {group} {from} {to} seen {#seen}")],
     "unit": [form_of("unit {unit} frames {#frames}")],
-    "counts": [form_of("frames {#frames} skipped {#skipped} bad {#bad} elsewhere {#elsewhere} unsure {#unsure} breaks {#breaks} stamps {#stamps}"),
-               form_of("deviations {#deviations}")],
+    "counts": [*(form_of("frames {#frames} skipped {#skipped} bad {#bad} elsewhere {#elsewhere} unsure {#unsure} breaks {#breaks} stamps {#stamps}" + again)
+                 for again in ("", " again {#again}")), form_of("deviations {#deviations}")],
 }
 
 # Lines of which an answer has several, and what these are called.
@@ -77,7 +77,8 @@ class Accused(NamedTuple):
 
 class Audit(NamedTuple):
     """What a log refutes of a plan: who is `accused`; how often each flow was seen, by its number; and how many lines of the log are frames, have 11-bit
-    identifiers (`skipped`), spell none (`bad`), are of other interfaces (`elsewhere`), or are of no sure sender, and how often it breaks off."""
+    identifiers (`skipped`), spell none (`bad`), are of other interfaces (`elsewhere`), or are of no sure sender, how often it breaks off, and how many
+    frames stand there again."""
 
     accused: list[Accused]
     seen: dict[int, int]
@@ -87,6 +88,7 @@ class Audit(NamedTuple):
     elsewhere: int
     unsure: int
     breaks: int
+    again: int = 0
 
 
 def accused_of(line: Line) -> Accused:

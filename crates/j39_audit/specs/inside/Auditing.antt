@@ -8,7 +8,7 @@ use Rattle.j39_log.specs.LineCounting.{AreWithin}
 use Rattle.j39_network.specs.declared.plan.Plan.{Plan}
 use Rattle.j39_stream.specs.declared.verdict.Verdict.{Verdict}
 use Rattle.j39_tp.specs.declared.packet.Packet.{Packet}
-use Rattle.j39_audit.specs.AuditText.{AuditPast, AuditsLines, AuditsShort, Look, accusation_count, flow_seen, request_seen, unit_seen, is_of_asking, is_of_broadcasts, is_of_moments, log_ended, nothing_read, text_by, verdict_by, past_with_frame, is_of_load, mark_by_bus}
+use Rattle.j39_audit.specs.AuditText.{AuditPast, AuditsLines, AuditsShort, Look, TakesFrame, accusation_count, flow_seen, request_seen, unit_seen, is_of_asking, is_of_broadcasts, is_of_moments, log_ended, noted_newly, nothing_read, text_by, verdict_by, past_with_frame, is_of_load, mark_by_bus}
 use Rattle.j39_audit.specs.Asking.{with_sign_of}
 use Rattle.j39_audit.specs.BegunBroadcasts.{broadcasts_behind, packet_with}
 use Rattle.j39_audit.specs.Below.{each_below}
@@ -69,6 +69,8 @@ pub record RecallsAudit (log : AuditLog) (past : AuditPast) : Type 0 where
   pub follows : AccordsWith log past
   pub number_is : log.number ≡ past.number
   pub interface_is : interface_of log.interface ≡ past.interface
+  pub taken_is : log.taken ≡ past.taken
+  pub again_is : log.again ≡ past.again
   pub frames_are : log.counts.frames ≡ past.frames
   pub skipped_are : log.counts.skipped ≡ past.skipped
   pub bad_are : log.counts.bad ≡ past.bad
@@ -100,17 +102,25 @@ times_behind s k gap anew time f line noted ending announced past = record past 
       past.broadcasts;
 }
 
--- a frame of this time and of a line of this interface, as some packet or none, leads to what is followed now
-pub record TakesFrame (new : AuditLog) (past : AuditPast) (time : Option ℕ) (named : Option (List ℕ)) (f : Frame) : Type 0 where
+-- a frame of this time and of a line of this interface, as some packet or none, leads to what is followed now, and was seen so
+pub record FollowsFrame (new : AuditLog) (past : AuditPast) (time : Option ℕ) (named : Option (List ℕ)) (f : Frame) : Type 0 where
   pub packet : Option Packet
   pub packet_is : IsPacketOf f packet
   pub follows : AccordsWith new (past_with_frame (settings_of new.basis) past time named f packet)
+  pub sights : new.tally.sighting ≡ sighted_behind nothing_sighted (noted_newly (settings_of new.basis) past time f packet)
 
 -- and to what is recalled now
-pub record TakesFrameLine (new : AuditLog) (past : AuditPast) (time : Option ℕ) (named : Option (List ℕ)) (f : Frame) : Type 0 where
+pub record TakesFrameNew (new : AuditLog) (past : AuditPast) (time : Option ℕ) (named : Option (List ℕ)) (f : Frame) : Type 0 where
   pub packet : Option Packet
   pub packet_is : IsPacketOf f packet
   pub recalls : RecallsAudit new (past_with_frame (settings_of new.basis) past time named f packet)
+
+-- a frame, which may stand there again, leads to a past that is recalled
+pub record TakesFrameLine (new : AuditLog) (past : AuditPast) (time : Option ℕ) (named : Option (List ℕ)) (f : Frame) : Type 0 where
+  pub next : AuditPast
+  pub takes : TakesFrame (settings_of new.basis) past time named f next
+  pub recalls : RecallsAudit new next
+  pub number_is : next.number ≡ past.number
 
 -- a line leads to a past that is recalled
 pub record TakesLine (new : AuditLog) (past : AuditPast) (line : List ℕ) : Type 0 where
@@ -154,5 +164,5 @@ pub record HasReadLog (s : Settings) (log : AuditLog) (old new : Option (List �
 
 -- what is written of the log that was read, with the verdict
 pub record IsAuditReport (log : AuditLog) (text : List ℕ) (verdict : Verdict) : Type 0 where
-  pub text_is : text ≡ text_by (settings_of log.basis) log.counts (tallied log)
+  pub text_is : text ≡ text_by (settings_of log.basis) log.counts log.again (tallied log)
   pub verdict_is : verdict ≡ verdict_by (accusation_count (settings_of log.basis) (tallied log))

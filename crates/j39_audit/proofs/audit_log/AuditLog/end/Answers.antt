@@ -28,6 +28,8 @@ returns c =
         };
         number_is = old.number_is;
         interface_is = old.interface_is;
+        taken_is = old.taken_is;
+        again_is = old.again_is;
         frames_are = old.frames_are;
         skipped_are = old.skipped_are;
         bad_are = old.bad_are;

@@ -23,6 +23,8 @@ returns-clause-nothing c =
         };
         number_is = refl;
         interface_is = refl;
+        taken_is = refl;
+        again_is = refl;
         frames_are = ap (λ (k : LineCounts). k.frames) none;
         skipped_are = ap (λ (k : LineCounts). k.skipped) none;
         bad_are = ap (λ (k : LineCounts). k.bad) none;

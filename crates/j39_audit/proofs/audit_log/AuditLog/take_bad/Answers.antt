@@ -1,4 +1,4 @@
-use Rattle.std.proofs.Common.{ℕ, ◌+◌, ap, subst}
+use Rattle.std.proofs.Common.{ℕ, ◌+◌, refl, ap, subst}
 use Rattle.std.proofs.lemmas.Result.{IfOk-weaker}
 use Rattle.j39_audit.specs.Moments.{behind_bad}
 use Rattle.j39_audit.specs.Settings.{Settings}
@@ -22,6 +22,8 @@ returns-clause-fault c =
       };
       number_is = recalls.number_is;
       interface_is = recalls.interface_is;
+      taken_is = refl;
+      again_is = recalls.again_is;
       frames_are = recalls.frames_are;
       skipped_are = recalls.skipped_are;
       bad_are = ap (λ (n : ℕ). n + 1) recalls.bad_are;

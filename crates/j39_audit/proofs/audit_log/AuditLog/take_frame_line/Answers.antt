@@ -1,31 +1,50 @@
-use Rattle.std.proofs.Common.{◌+◌, ℕ, List, Option, ap, ◌∙◌}
+use Rattle.std.proofs.Common.{◌≡◌, Option, inl, inr, true, false, refl, sym, ap, ◌∙◌}
+use Rattle.std.proofs.lemmas.Result.{IfOk-weaker}
 use Rattle.std.specs.Option.{option_copied}
-use Rattle.std.specs.declared.alloc.Global.{Global}
-use Rattle.std.specs.declared.vec.Vec.{Vec}
-use Rattle.j39_log.specs.declared.line_counts.LineCounts.{LineCounts}
-use Rattle.j39_follow.specs.LogLines.{interface_behind}
-use Rattle.j39_follow.specs.inside.FollowedSoFar.{interface_of}
-use Rattle.j39_audit.specs.AuditText.{past_with_frame}
-use Rattle.j39_audit.proofs.Hearing.{follows_still}
+use Rattle.j39_audit.specs.Again.{is_again}
+use Rattle.j39_audit.specs.AuditText.{past_with_again, past_with_frame}
+use Rattle.j39_audit.specs.declared.again.TakenFrame.{TakenFrame}
+use Rattle.j39_audit.specs.declared.basis.Basis.{Basis}
+use Rattle.j39_audit.specs.inside.Recalling.{settings_of}
+use Rattle.j39_audit.proofs.Hearing.{again_number, frame_number}
 use Rattle.j39_audit.proofs.audit_log.AuditLog.take_frame_line.Goals as goal
 
-pub returns-clause-frame : goal.returns-clause-frame
-unfolding past_with_frame
-returns-clause-frame c = λ past recalls.
-    let timed = c.in_ok-take_timed.ensures in
-    let named : Option (List ℕ) = option_copied c.args.named in
-    let took = timed.frame past named recalls.follows recalls.number_is in
+pub returns-then-is_again-clause-frame : goal.returns-then-is_again-clause-frame
+returns-then-is_again-clause-frame c =
+    IfOk-weaker c.take_line_again.result _ _
+    (λ _ took. λ past recalls.
+    let new = c.take_line_again.new.self in
+    let s = settings_of new.basis in
+    let old = c.args.self.now in
+    let again : is_again s.plan past.taken c.args.time c.args.frame ≡ true =
+    ap (λ (b : Basis). is_again b.plan.now past.taken c.args.time c.args.frame) c.take_line_again.ensures.basis
+    ∙ ap (λ (t : Option TakenFrame). is_again old.basis.plan.now t c.args.time c.args.frame) (sym recalls.taken_is)
+    ∙ sym c.is_again.ensures ∙ c.if-is_again.true in
     record {
-      packet = took.packet;
-      packet_is = took.packet_is;
-      recalls = record {
-        follows = follows_still c.take_timed.new.self _ took.follows;
-        number_is = timed.number ∙ recalls.number_is;
-        interface_is = c.in_ok-keep_interface.ensures ∙ ap (λ (i : Option (List ℕ)). interface_behind i named)
-            (ap (λ (i : Option (Vec ℕ Global)). interface_of i) timed.interface ∙ recalls.interface_is);
-        frames_are = ap (λ (k : LineCounts). k.frames + 1) timed.counts ∙ ap (λ (n : ℕ). n + 1) recalls.frames_are;
-        skipped_are = ap (λ (k : LineCounts). k.skipped) timed.counts ∙ recalls.skipped_are;
-        bad_are = ap (λ (k : LineCounts). k.bad) timed.counts ∙ recalls.bad_are;
-        elsewhere_are = ap (λ (k : LineCounts). k.elsewhere) timed.counts ∙ recalls.elsewhere_are;
-      };
-    }
+      next = past_with_again s c.args.time (option_copied c.args.named) past;
+      takes = inl (again, refl);
+      recalls = took past recalls;
+      number_is = again_number s past past.taken c.args.time;
+    })
+    c.take_line_again.ensures.again
+
+pub returns-clause-frame : goal.returns-clause-frame
+returns-clause-frame c =
+    IfOk-weaker c.take_new.result _ _
+    (λ _ took. λ past recalls.
+    let new = c.take_new.new.self in
+    let s = settings_of new.basis in
+    let old = c.args.self.now in
+    let done = took past recalls in
+    let fresh : is_again s.plan past.taken c.args.time c.args.frame ≡ false =
+    ap (λ (b : Basis). is_again b.plan.now past.taken c.args.time c.args.frame) c.take_new.ensures.basis
+    ∙ ap (λ (t : Option TakenFrame). is_again old.basis.plan.now t c.args.time c.args.frame) (sym recalls.taken_is)
+    ∙ sym c.is_again.ensures ∙ c.if-is_again.false in
+    let named = option_copied c.args.named in
+    record {
+      next = past_with_frame s past c.args.time named c.args.frame done.packet;
+      takes = inr (fresh, (done.packet, done.packet_is, refl));
+      recalls = done.recalls;
+      number_is = frame_number s past c.args.time named c.args.frame done.packet;
+    })
+    c.take_new.ensures.frame

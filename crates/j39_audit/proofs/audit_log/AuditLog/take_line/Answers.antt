@@ -6,11 +6,11 @@ use Rattle.j39_id.specs.FrameLine.{HasLineFault, Spells}
 use Rattle.j39_id.specs.declared.frame.Frame.{Frame}
 use Rattle.j39_id.specs.declared.line_error.LineError.{LineError}
 use Rattle.j39_network.specs.declared.plan.Plan.{Plan}
-use Rattle.j39_audit.specs.AuditText.{AuditPast, passed_by, past_with_frame}
+use Rattle.j39_audit.specs.AuditText.{AuditPast, TakesFrame, passed_by}
 use Rattle.j39_audit.specs.Breaks.{line_time}
 use Rattle.j39_audit.specs.declared.basis.Basis.{Basis}
 use Rattle.j39_audit.specs.inside.Recalling.{settings_of}
-use Rattle.j39_audit.proofs.Hearing.{as_many_lines, follows_still, frame_number, heard_elsewhere, heard_here}
+use Rattle.j39_audit.proofs.Hearing.{as_many_lines, follows_still, heard_elsewhere, heard_here}
 use Rattle.j39_audit.proofs.audit_log.AuditLog.take_line.Goals as goal
 
 pub returns-then-is_elsewhere-clause-line : goal.returns-then-is_elsewhere-clause-line
@@ -26,6 +26,8 @@ returns-then-is_elsewhere-clause-line c = λ past recalls.
         follows = follows_still self past recalls.follows;
         number_is = recalls.number_is;
         interface_is = recalls.interface_is;
+        taken_is = recalls.taken_is;
+        again_is = recalls.again_is;
         frames_are = recalls.frames_are;
         skipped_are = recalls.skipped_are;
         bad_are = recalls.bad_are;
@@ -45,25 +47,20 @@ returns-in-Ok-clause-line c =
     IfOk-weaker c.take_frame_line.result _ _
     (λ _ took. λ past recalls.
     let done = took past recalls in
-    let with_frame : Option ℕ → AuditPast = λ t. past_with_frame s past t (option_copied named.result) f done.packet in
-    let next : AuditPast = with_frame c.line_time-time.result in
     record {
-      next = next;
-      reads = heard_here s past next c.args.line.now part named.result c.read_part-part.ensures named.ensures.named named.ensures.none
+      next = done.next;
+      reads = heard_here s past done.next c.args.line.now part named.result c.read_part-part.ensures named.ensures.named named.ensures.none
           _ _ c.if-is_elsewhere.false c.is_elsewhere.ensures.1 (c.kept_interface.ensures ∙ recalls.interface_is)
           (inl (
             f,
             c.time_text.result.now,
             spelled,
             c.time_text.ensures,
-            (
-              done.packet,
-              done.packet_is,
-              ap with_frame (c.line_time-time.ensures.value ∙ ap (λ (p : Plan). line_time p c.time_text.result.now) plan),
-            ),
+            subst (λ (t : Option ℕ). TakesFrame s past t (option_copied named.result) f done.next)
+                (c.line_time-time.ensures.value ∙ ap (λ (p : Plan). line_time p c.time_text.result.now) plan) done.takes,
           ));
       recalls = done.recalls;
-      number_is = frame_number s past c.line_time-time.result (option_copied named.result) f done.packet;
+      number_is = done.number_is;
     })
     c.take_frame_line.ensures.frame
 

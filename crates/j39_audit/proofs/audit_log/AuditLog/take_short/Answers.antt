@@ -1,4 +1,4 @@
-use Rattle.std.proofs.Common.{◌≡◌, ◌+◌, ◌++◌, ℕ, Bool, ap, subst, ◌∙◌}
+use Rattle.std.proofs.Common.{◌≡◌, ◌+◌, ◌++◌, ℕ, Bool, refl, ap, subst, ◌∙◌}
 use Rattle.std.specs.Prelude.{nat_lt}
 use Rattle.j39_audit.specs.Looking.{noted_if}
 use Rattle.j39_audit.specs.SentMessages.{noted_at}
@@ -28,6 +28,8 @@ returns-clause-fault c = λ past recalls.
       };
       number_is = recalls.number_is;
       interface_is = recalls.interface_is;
+      taken_is = refl;
+      again_is = recalls.again_is;
       frames_are = recalls.frames_are;
       skipped_are = ap (λ (n : ℕ). n + 1) recalls.skipped_are;
       bad_are = recalls.bad_are;
