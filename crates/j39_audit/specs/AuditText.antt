@@ -414,11 +414,14 @@ units_seen plan look = each_below (unit_seen plan look) (length plan.units.items
 unfoldable pub again_text : ℕ → List ℕ
 again_text again = if again == 0 then [] else field (codes " again ") again
 
+-- the end of their line, with what times may differ by
+unfoldable pub stamps_text : ℕ → ℕ → List ℕ
+stamps_text stamps again = field (codes " stamps ") stamps ++ (again_text again ++ 10 ∷ [])
+
 -- how many lines there were of each sort
 unfoldable pub sorts_text : ℕ → LineCounts → ℕ → Look → List ℕ
 sorts_text stamps counts again look = lines_text counts ++ (field (codes " elsewhere ") counts.elsewhere
-    ++ (field (codes " unsure ") (times_of look Unsure 0) ++ (field (codes " breaks ") (times_of look Break 0)
-    ++ (field (codes " stamps ") stamps ++ (again_text again ++ 10 ∷ [])))))
+    ++ (field (codes " unsure ") (times_of look Unsure 0) ++ (field (codes " breaks ") (times_of look Break 0) ++ stamps_text stamps again)))
 
 -- and how many accuse
 unfoldable pub deviations_line : ℕ → List ℕ

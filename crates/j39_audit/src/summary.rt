@@ -2,7 +2,7 @@
 ghost use Rattle.std.specs.Prelude.{◌≡◌, ◌≤◌, ◌<◌, ◌++◌, IfOk, OnOk};
 ghost use Rattle.j39_audit.specs.AuditText.{accusation_count, accusations, accusing_at, again_text, deviations_line, flow_seen};
 ghost use Rattle.j39_audit.specs.AuditText.{flow_seen_line, flows_seen, groups_named, if_not_by_bus, line_reported, lines_reported, reported_mark};
-ghost use Rattle.j39_audit.specs.AuditText.{request_seen, request_seen_line, requests_seen, sorts_text, subject_count};
+ghost use Rattle.j39_audit.specs.AuditText.{request_seen, request_seen_line, requests_seen, sorts_text, stamps_text, subject_count};
 ghost use Rattle.j39_audit.specs.AuditText.{subject_lines, subjects, text_by, times_of, unit_frames_line, unit_seen};
 ghost use Rattle.j39_audit.specs.AuditText.{units_seen, word_count, word_lines};
 ghost use Rattle.j39_audit.specs.inside.Auditing.{all_seen, seen_at, seen_places, tallied};
@@ -329,6 +329,16 @@ fn write_again(text: &mut TextBuffer, again: u64) -> WriteResult
     text.field(" again ", again)
 }
 
+// Writes the end of their line, with what times may differ by.
+#[tactic(auto, unfolding(crate::specs::AuditText::stamps_text))]
+fn write_stamps(text: &mut TextBuffer, stamps: u64, again: u64) -> WriteResult
+    ensures { OnOk result (text.new ≡ text.old ++ stamps_text stamps again) }
+{
+    text.field(" stamps ", stamps)?;
+    write_again(text, again)?;
+    text.end_line()
+}
+
 // Writes how many lines there were of each sort.
 #[tactic(auto, unfolding(crate::specs::AuditText::sorts_text))]
 fn write_counts(text: &mut TextBuffer, log: &AuditLog<'_>) -> WriteResult
@@ -338,9 +348,7 @@ fn write_counts(text: &mut TextBuffer, log: &AuditLog<'_>) -> WriteResult
     text.field(" elsewhere ", log.counts.elsewhere)?;
     text.field(" unsure ", times_of(log, Word::Unsure, 0))?;
     text.field(" breaks ", times_of(log, Word::Break, 0))?;
-    text.field(" stamps ", log.basis.stamps)?;
-    write_again(text, log.again)?;
-    text.end_line()
+    write_stamps(text, log.basis.stamps, log.again)
 }
 
 #[tactic(auto, unfolding(crate::specs::AuditText::deviations_line))]

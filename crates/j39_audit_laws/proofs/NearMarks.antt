@@ -483,8 +483,8 @@ module _ (s : Settings) (log : List Line) (t : Timing) (timed : s.plan.timing �
           mark = λ q e. later_mark number q (is.mark q e);
         }),
         λ one taken.
-        let (τ, before) = is_timed one (sym passed.taken_is ∙ taken) in
-        (τ, ap (λ (m : Moments). m.before) passed.moments_are ∙ before),
+            let (τ, before) = is_timed one (sym passed.taken_is ∙ taken) in
+            (τ, ap (λ (m : Moments). m.before) passed.moments_are ∙ before),
       )
   more number past next (is, is_timed) (count, inr (inl gap)) =
       let same : frames.IsAsNear s t timed n past.moments past.moments = record { earliest = refl; noted = refl; since = refl; before = refl } in (
