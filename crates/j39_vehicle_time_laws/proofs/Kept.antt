@@ -262,7 +262,8 @@ module _ (v : Vehicle) (scope : Scope) (delays : Delays) (stated : AreDelays v d
         let started = starts_within ofb.bus.plan l.tx.timing ofb.stays (delays_on delays l.x.bus) ofb.asks l.x.flow l.there.bits at_place
         (Rattle.j39_timing.specs.Prefixes.seen_until (seen l.x.bus).schedule by (Rattle.j39_load.specs.PlannedFrames.others_of l.tx.timing).least)
         (seen l.x.bus).controllers
-        (Rattle.j39_timing.specs.Prefixes.planned_until (seen l.x.bus).schedule (seen l.x.bus).planned by) (seen l.x.bus).of legal frames in
+        (Rattle.j39_timing.specs.Prefixes.planned_until (seen l.x.bus).schedule (seen l.x.bus).planned by) (seen l.x.bus).of legal frames
+        (streamed v scope delays stated seen l.x.bus l.x.flow l.tx l.there).single.1 in
         let soon : (seen l.x.bus).schedule.queued p + (bounded_here v scope delays stated seen l.x.bus l.x.flow l.tx l.there).wait < by = omega (arith, early, same) in
         let start = started p in_p (then_is_planned (seen l.x.bus).schedule (seen l.x.bus).planned by p is (omega (arith, soon))) source soon in
         omega (arith, start, same)

@@ -340,6 +340,6 @@ module _ (v : Vehicle) (delays : Delays) (stated : AreDelays v delays) (at : Flo
         jitter = λ p its. (keeps p its).2;
         starts = starts_within of_bus.bus.plan has.timing of_bus.stays (delays_on delays at.bus) of_bus.asks at.flow has.bits delay_here (seen at.bus).schedule
             (seen at.bus).controllers
-            (seen at.bus).planned (seen at.bus).of keeps_bus.legal frames_here;
+            (seen at.bus).planned (seen at.bus).of keeps_bus.legal frames_here its_stream.single.1;
         spaced = apart;
       }

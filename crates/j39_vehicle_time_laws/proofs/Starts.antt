@@ -28,6 +28,7 @@ use Rattle.j39_timing.specs.FrameBits.{longest_frame}
 use Rattle.j39_timing.specs.FrameStreams.{Origins}
 use Rattle.j39_timing.specs.TimedFrames.{Schedule}
 use Rattle.j39_timing.specs.Traffic.{IsSingle, delay_of}
+use Rattle.j39_timing.specs.Waits.{IsSpaced}
 use Rattle.j39_timing.proofs.Buffering.{ordered_begun}
 
 -- ---- frames of units that keep order
@@ -46,7 +47,7 @@ module _ (timing : Timing) (asked : List (Option FlowFrames)) (paced : All HasPe
       (positive timing asked paced sent)
       (own_ordered timing asked paced sent buffering buffering_delays i frames at ordered bounded wait enough s controllers planned of legal known)
       (buffered_for buffering.waits) (have timing asked paced sent buffering buffering_delays i frames at ordered bounded wait enough s controllers planned of legal known)
-      (demand_fits timing asked paced sent buffering buffering_delays i frames at ordered bounded wait enough)
+      (demand_fits timing asked paced sent buffering buffering_delays i frames at ordered bounded wait enough single.1)
       (subst (λ (own : FlowFrames). IsSingle own.stream) (sym is_placed) single)
       (subst (λ (own : FlowFrames). delay_of own.stream wait ≤ own.stream.period) (sym is_placed) fits)
 
@@ -72,7 +73,7 @@ module _ (plan : Plan) (timing : Timing) (stays : UnitPlan → Bool) (delays : L
   paces = subst (ArePaced bound.load.limit) bound.short (of_loads timing plan stays flow bound.load bound.its).messages
 
   module _ (s : Schedule) (controllers : Controllers) (planned : ℕ → Bool) (of : Origins) (legal : IsLegalInAnyOrder s controllers)
-      (known : AreFramesInAnyOrder timing (frames_asked asked) s controllers planned of flow) where
+      (known : AreFramesInAnyOrder timing (frames_asked asked) s controllers planned of flow) (spaced : IsSpaced bound.frames.stream) where
     by_order : keep_order bound.frames ≡ true → (passed : Bool) → may_be_passed bound.buffering bound.frames.greatest_ident ≡ passed
         → MatchBool passed (Within bits ≡ Late) (IsShortDelay timing bound.buffering.frames flow bound.frames bound.load.limit (Within bits))
         → AreBegunWithin s planned of flow bound.wait
@@ -85,7 +86,7 @@ module _ (plan : Plan) (timing : Timing) (stays : UnitPlan → Bool) (delays : L
         subst (AreBegunWithin s planned of flow) same
         (ordered_starts timing (frames_asked asked) (all_paced timing plan stays)
         (all_sent timing plan stays) bound.buffering bound.is flow bound.frames here ordered passed
-        wait inside.demand_fits s controllers planned of legal known paces.1 (omega (arith, fits, limited)))
+        wait inside.demand_fits s controllers planned of legal known (paces.1, spaced) (omega (arith, fits, limited)))
 
     by_queue_group : keep_order bound.frames ≡ false → Within bits ≡ any_delay bound.frames bound.load.limit (get_or bound.buffering.waits flow None)
         → AreBegunWithin s planned of flow bound.wait

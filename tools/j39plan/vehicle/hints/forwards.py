@@ -94,11 +94,19 @@ def pace(flow: Flow, key: str) -> str:
     return f"no {key}" if number is None else f"a {key} of {number} ms"
 
 
+def askers(ways: Ways, bus: str, flow: Flow) -> int:
+    """How many requests with a period ask for a flow of a bus that comes only as an answer."""
+    return len(requests.asking(ways.vehicle.on(bus), flow)) if flow.on_request else 0
+
+
 def too_often(ways: Ways, forward: Forward) -> str:
     """Why a flow that is sent on directly has more messages than its plan says."""
     heard, sent = ways.inputs(forward)[0], ways.outputs(forward)[0]
     if sent.on_request and not heard.on_request:
         return f"{shown(forward.sent.bus, sent)} answers requests alone, and what it sends on comes unasked: mode = \"periodic\" keeps the newest for an answer"
+    several = askers(ways, forward.heard.bus, heard)
+    if sent.period is not None and several > max(1, askers(ways, forward.sent.bus, sent)):
+        return f"{several} messages of {shown(forward.heard.bus, heard)} may come at once, as answers: mode = \"periodic\" keeps the newest"
     return (f"{shown(forward.sent.bus, sent)} has {pace(sent, 'period')}, and what it sends on, {shown(forward.heard.bus, heard)} has "
             f"{pace(heard, 'period')}: give the first no greater one, or mode = \"periodic\"")
 
