@@ -8,7 +8,9 @@ use j39_plan_text::{WriteLines, write_each};
 use j39_text::{TextBuffer, WriteResult};
 use j39_vehicle::{Forward, Vehicle};
 use j39_vehicle_findings::Routes;
-use j39_vehicle_times::{Delays, askers_on, first_output, is_late_asked, latest_of, queued, us_of_ms};
+use j39_vehicle_times::{
+    Delays, askers_on, first_output, is_late_asked, latest_of, queued, us_of_ms,
+};
 
 // How long after its release a message of the first flow that the forward feeds may be queued, in microseconds.
 #[tactic(auto, unfolding(crate::specs::ForwardLines::output_jitter))]
