@@ -1,7 +1,7 @@
 -- The lines of a log, one after another: what each adds to what is reported of a mark.
 use Rattle.std.proofs.Common.{◌≡◌, ◌⊎◌, ℕ, ◌+◌, ◌++◌, ◌∷◌, [], List, length}
 use Rattle.std.proofs.Common.{inl, inr, refl, sym, ap, ◌∙◌, subst, arith, Option}
-use Rattle.std.specs.Prelude.{nat_lt}
+use Rattle.std.specs.Prelude.{nat_lt, false, Some, None}
 use Rattle.std.proofs.lemmas.Bool.{lt-ltb, ltb-true}
 use Rattle.std.proofs.lemmas.List.{append-nil, length-append}
 use Rattle.j39_id.specs.FrameLine.{HasLineFault, Spells}
@@ -11,7 +11,7 @@ use Rattle.j39_id.specs.declared.line_error.LineError.{LineError}
 use Rattle.j39_id.specs.declared.line_error.LineError.TheVariants.{Empty, NoHash, ShortIdent, BadIdent, TooLong, BadData}
 use Rattle.j39_follow.specs.LogLines.{IsTimeText}
 use Rattle.j39_tp.specs.declared.packet.Packet.{Packet}
-use Rattle.j39_audit.specs.AuditText.{AuditPast, AuditsLine, AuditsLines, AuditsShort, claims_before, nothing_read, passed_by, past_with_frame, skipped_line, with_next_number}
+use Rattle.j39_audit.specs.AuditText.{AuditPast, AuditsLine, AuditsLines, AuditsShort, claims_before, nothing_read, passed_by, past_with_frame, skipped_line, with_next_number, past_again}
 use Rattle.j39_audit.specs.Breaks.{breaks, line_time}
 use Rattle.j39_audit.specs.Claiming.{HeardClaims}
 use Rattle.j39_audit.specs.Counting.{Noted}
@@ -20,12 +20,14 @@ use Rattle.j39_audit.specs.SentMessages.{noted_at}
 use Rattle.j39_audit.specs.Settings.{Settings}
 use Rattle.j39_audit.specs.declared.mark.Mark.{Mark}
 use Rattle.j39_audit.specs.declared.mark.Word.TheVariants.{Short, Break}
-use Rattle.j39_audit.proofs.Hearing.{as_many_lines, frame_number}
+use Rattle.j39_audit.proofs.Hearing.{as_many_lines, frame_number, again_number}
 use Rattle.j39_audit_laws.specs.FoundLines.{IsAccusing, IsFoundAt, IsFrameAt, IsLineOf, IsAccusedAs, IsReadHere, IsShortAt}
 use Rattle.j39_audit_laws.proofs.Frames.{marked_noted, noted_means, noted_once}
 use Rattle.j39_audit_laws.proofs.Hits.{AtMostOne, In, HaveWords, hit_in, hits, hits_both, if_in, in_cases, in_hits, in_if, in_right, no_hits, one_behind, one_if, words_if}
 use Rattle.j39_audit_laws.proofs.Marking.{is_seen, seen_word, unseen}
 use Rattle.j39_audit_laws.proofs.OneReading.{one_line_read, one_log_read}
+use Rattle.j39_audit.specs.Again.{is_again}
+use Rattle.j39_audit.specs.declared.again.TakenFrame.{TakenFrame}
 
 -- ---- what a line is read as
 

@@ -1,7 +1,7 @@
 -- A bus that keeps to its plan, and a whole log of it: two frames of one flow.
 use Rattle.std.proofs.Common.{◌≡◌, ℕ, suc, ◌+◌, ◌-◌, ◌<◌, ◌≤◌, ◌⊎◌, List, [], ◌∷◌, ◌++◌, All, length, Option, Some, None, refl, sym, ap, ◌∙◌, subst, inl, inr, Bool, true, ◌&&◌, ◌||◌, ◌==◌, if◌then◌else◌}
 use Rattle.std.proofs.Common.{arith, false}
-use Rattle.std.proofs.lemmas.Bool.{true≢false, leb-false, ltb-true}
+use Rattle.std.proofs.lemmas.Bool.{true≢false, leb-false, ltb-true, le-ltb}
 use Rattle.std.proofs.lemmas.List.{length-append, length-map}
 use Rattle.std.proofs.lemmas.Option.{same_Some}
 use Rattle.std.specs.List.{slice_get}
@@ -26,7 +26,7 @@ use Rattle.j39_load.specs.SentFrames.{IsSentByUnit, Single, HasPeriodMs, goes_to
 use Rattle.j39_load.proofs.KeepingApart.{few_ident}
 use Rattle.j39_load.proofs.KeepingPlanned.{no_broadcasts, planned_address, planned_held, planned_apart, planned_receiver, planned_sender}
 use Rattle.j39_follow.specs.LogLines.{IsReadPart, IsTimeText}
-use Rattle.j39_audit.specs.AuditText.{AuditPast, AuditsLines, claims_before, nothing_read, past_with_frame, with_next_number, AuditsLine}
+use Rattle.j39_audit.specs.AuditText.{AuditPast, AuditsLines, claims_before, nothing_read, past_with_frame, with_next_number, AuditsLine, noted_newly}
 use Rattle.j39_audit.specs.Breaks.{line_time, breaks}
 use Rattle.j39_audit.specs.Looking.{IsPacketOf, claimant, is_claim}
 use Rattle.j39_audit.specs.Settings.{Settings, logger_error}
@@ -42,11 +42,21 @@ use Rattle.j39_audit_laws.specs.KeptParts.{CarriesPlan, CarriesPlanned, IsGroupM
 use Rattle.j39_audit_laws.specs.LoggedBuses.{CanBeLogged, CanPlansBeLogged, IsFrameOfFlow, IsOftenSent}
 use Rattle.j39_audit_laws.specs.MarkRecords.{IsNextTo, IsTimeOf}
 use Rattle.j39_audit_laws.specs.OwnPart.{AreItsOwn, IsItsAddress}
-use Rattle.j39_audit_laws.specs.PauseLines.{FrameLine, time_there}
+use Rattle.j39_audit_laws.specs.PauseLines.{FrameLine, time_there, IsAgainAt}
 use Rattle.j39_audit_laws.proofs.SoleSenders.{may_be_planned, sole_sender, still_none, unheard}
 use Rattle.j39_audit_laws.proofs.LateSlots.{either_later, ends_in_turn, exact_clock, exact_keeps, first_ended, first_time, ident_of_flow, late_bus, late_frame, late_sent, late_slots, next_one, second_ended, second_time}
 use Rattle.j39_audit_laws.proofs.TimedLines.{IsWrittenTime, later_text, later_written, line_time_is, no_interface, not_elsewhere, only_frame, only_time, read_part, second_text, only_part}
 use Rattle.j39_audit_laws.proofs.TimedLines.{second_written, spelled, time_text, timed_line}
+use Rattle.j39_audit.specs.Again.{is_again, is_again_behind, is_same_frame, taken_frame}
+use Rattle.j39_audit.specs.declared.again.TakenFrame.{TakenFrame}
+use Rattle.j39_audit.specs.declared.tally.Sighting.{Sighting}
+use Rattle.j39_audit.specs.MessageStreams.{nothing_sighted, sighted_behind}
+use Rattle.j39_audit.specs.Moments.{bit_us}
+use Rattle.j39_audit_laws.proofs.Walk.{taken_with}
+use Rattle.j39_network.specs.declared.plan.timing.Bitrate.{Bitrate}
+use Rattle.j39_network.specs.declared.plan.timing.Bitrate.TheVariants.{Kbit125, Kbit250, Kbit500, Mbit1}
+use Rattle.std.specs.Option.{option_map_or}
+use Rattle.std.specs.Prelude.{nat_lt, nat_le, ◌*◌}
 
 -- ---- two lines
 
@@ -289,10 +299,10 @@ module _ (s : Settings) (apart : ArePlannedApart (units_of s.plan)) (written tim
   first_new = refl
 
   too_late : (bitrate : Bitrate) (bytes : ℕ) → bytes ≤ 8 → nat_lt (1990000 - 1000000) (bit_us bitrate * (67 + 8 * bytes)) ≡ false
-  too_late Kbit125 bytes few = le-ltb (bit_us Kbit125 * (67 + 8 * bytes)) 990000 (omega (arith, few))
-  too_late Kbit250 bytes few = le-ltb (bit_us Kbit250 * (67 + 8 * bytes)) 990000 (omega (arith, few))
-  too_late Kbit500 bytes few = le-ltb (bit_us Kbit500 * (67 + 8 * bytes)) 990000 (omega (arith, few))
-  too_late Mbit1 bytes few = le-ltb (bit_us Mbit1 * (67 + 8 * bytes)) 990000 (omega (arith, few))
+  too_late Kbit125 bytes few = le-ltb 990000 (bit_us Kbit125 * (67 + 8 * bytes)) (omega (arith, few))
+  too_late Kbit250 bytes few = le-ltb 990000 (bit_us Kbit250 * (67 + 8 * bytes)) (omega (arith, few))
+  too_late Kbit500 bytes few = le-ltb 990000 (bit_us Kbit500 * (67 + 8 * bytes)) (omega (arith, few))
+  too_late Mbit1 bytes few = le-ltb 990000 (bit_us Mbit1 * (67 + 8 * bytes)) (omega (arith, few))
 
   second_new : is_again s.plan (with_next_number first_past).taken (line_time s.plan later_text) frame ≡ false
   unfolding first_past is_again
@@ -409,11 +419,12 @@ module _ (s : Settings) (apart : ArePlannedApart (units_of s.plan)) (written tim
       destination_small source_small of_flow.ident)
 
   claims_behind_first : (next : AuditPast) → AuditsLine s nothing_read (Short first_line) next → next.claims ≡ no_claims
-  unfolding past_with_frame
+  unfolding past_with_frame is_again
   claims_behind_first next (part, named, part_is, named_is, how) = elim how [
     | inl elsewhere ↦ ap (λ (p : AuditPast). p.claims) elsewhere.1
     | inr here ↦ elim here.1 [
-      | inl (f, time, spelled_f, time_is, (other, other_is, is_next)) ↦
+      | inl (f, time, spelled_f, time_is, inl (again, is_next)) ↦ absurd (true≢false (sym again))
+      | inl (f, time, spelled_f, time_is, inr (new, (other, other_is, is_next))) ↦
           let same : f ≡ frame = only_frame second_text 1000000 second_written frame word spells some_word whole_word part f part_is spelled_f in
           let before : HeardClaims = claims_before s (with_next_number nothing_read) (line_time s.plan time) in
           ap (λ (p : AuditPast). p.claims) is_next ∙ (ap (λ (b : Bool). if b then with_claim (claimant s f) before else before) (ap is_claim same ∙ no_claim)

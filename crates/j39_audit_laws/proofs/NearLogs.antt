@@ -45,6 +45,7 @@ use Rattle.j39_audit_laws.proofs.NearWalk.{AreItsMessages, IsSoFar, as_lines, by
 use Rattle.j39_audit_laws.proofs.PlanTiming.{planned_timing}
 use Rattle.j39_audit_laws.proofs.ReportedTimes.{none_near_by_load}
 use Rattle.j39_audit_laws.proofs.Walk.{IsFrameNext, IsNext, at_end, load_with}
+use Rattle.j39_audit.specs.Again.{moments_again}
 
 -- ---- a log
 

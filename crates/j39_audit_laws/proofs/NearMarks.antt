@@ -17,10 +17,10 @@ use Rattle.j39_timing.specs.Messages.{frame_end}
 use Rattle.j39_timing.specs.TimedFrames.{Schedule}
 use Rattle.j39_load.specs.BusTimes.{with_claims}
 use Rattle.j39_load.specs.Clocks.{bit_time}
-use Rattle.j39_audit.specs.AuditText.{AuditPast, AuditsLines, look_at, log_ended, mark_at, broadcasts_there, counted_for, moments_with_frame, nothing_read}
+use Rattle.j39_audit.specs.AuditText.{AuditPast, AuditsLines, look_at, log_ended, mark_at, broadcasts_there, counted_for, moments_with_frame, nothing_read, noted_newly}
 use Rattle.j39_audit.specs.Counting.{Noted, key_of, reported_at, occurrences_of}
 use Rattle.j39_audit.specs.Looking.{is_single}
-use Rattle.j39_audit.specs.MessageStreams.{flow_pace, flow_stream, group_in_flow, is_in_stream, paced_stream, shortest_us, stream_pause}
+use Rattle.j39_audit.specs.MessageStreams.{flow_pace, flow_stream, group_in_flow, is_in_stream, paced_stream, shortest_us, stream_pause, nothing_sighted, sighted_behind}
 use Rattle.j39_audit.specs.Moments.{Moments, all_pauses_ended, begins_anew, behind_gap, earliest_end, long_before, lower_bound, moment_window, moments_behind}
 use Rattle.j39_audit.specs.Near.{is_too_near}
 use Rattle.j39_audit.specs.Settings.{Settings, logger_error, response_of}
@@ -28,13 +28,13 @@ use Rattle.j39_audit.specs.declared.mark.Mark.{Mark}
 use Rattle.j39_audit.specs.declared.mark.Word.TheVariants.{NearFlow}
 use Rattle.j39_audit.specs.declared.streams.MessageStream.{MessageStream}
 use Rattle.j39_audit.specs.declared.window.Window.{Window}
-use Rattle.j39_audit_laws.specs.KeptLogs.{AreSeenAs, IsLogOfBus}
+use Rattle.j39_audit_laws.specs.KeptLogs.{AreSeenAs, IsLogOfBus, ShowsFrameAt, ShowsNone, ShowNone}
 use Rattle.j39_audit_laws.specs.LogBounds.{IsTimedBound, Lines}
 use Rattle.j39_audit_laws.specs.MarkRecords.{KeepsTime}
-use Rattle.j39_audit_laws.specs.PauseLines.{FrameLine, time_there}
+use Rattle.j39_audit_laws.specs.PauseLines.{FrameLine, time_there, IsAgainAt}
 use Rattle.j39_audit_laws.proofs.NearFrames as frames
 use Rattle.j39_audit_laws.proofs.NearWalk.{AreItsMessages, IsSoFar, as_lines, by_message, by_other, first_so_far, same_so_far}
-use Rattle.j39_audit_laws.proofs.Walk.{IsFrameNext, IsNext, at_end, moments_with}
+use Rattle.j39_audit_laws.proofs.Walk.{IsFrameNext, IsNext, at_end, moments_with, taken_with}
 use Rattle.j39_timing.specs.Errors.{Damaged, IsBusWithErrors}
 use Rattle.j39_load.specs.SentFrames.{Held}
 use Rattle.j39_audit.specs.BegunBroadcasts.{packet_with}
@@ -45,13 +45,15 @@ use Rattle.j39_audit.specs.declared.by_load.Bound.TheVariants.{Bus}
 use Rattle.j39_audit.specs.declared.mark.Word.TheVariants.{NearPackets}
 use Rattle.j39_audit_laws.specs.KeptLogs.{IsWholeLog, KeepsItsPeriod, PeriodsAreNotNear}
 use Rattle.j39_audit_laws.specs.LogBounds.{IsMarkedBound}
-use Rattle.j39_audit_laws.specs.PauseLines.{IsPassedOver}
-use Rattle.j39_audit_laws.specs.MarkRecords.{AreFew, ShowsIdle, longest_reach}
+use Rattle.j39_audit_laws.specs.MarkRecords.{AreFew, IsTimeOf, ShowsIdle, longest_reach}
 use Rattle.j39_audit_laws.proofs.ExactClocks.{exact_clocks}
 use Rattle.j39_audit_laws.proofs.OnLogs.{not_near}
 use Rattle.j39_audit_laws.proofs.PlanTiming.{planned_timing}
 use Rattle.j39_audit_laws.proofs.ReportedTimes.{behind}
 use Rattle.j39_audit_laws.proofs.NearClocks.{fast, packet_mark, same_bit, within_ms}
+use Rattle.j39_audit.specs.Breaks.{line_time}
+use Rattle.j39_audit.specs.Again.{moments_again, taken_frame}
+use Rattle.j39_audit.specs.declared.again.TakenFrame.{TakenFrame}
 
 -- ---- a log
 
@@ -211,7 +213,7 @@ module _ (s : Settings) (log : List Line) (t : Timing) (timed : s.plan.timing �
   -- a frame that stands there again shows one more of the bus, or repeats the last one
   last_again : (number : ℕ) (l : IsAgainAt s log (number + 1)) (time : ℕ) → line_time s.plan l.time ≡ Some time → ((τ : ℕ) × IsLastAt number τ)
       → IsLastAt (number + 1) time
-  last_again number l time at (τ, a, σ, shown, early, below, over) = elim (cases_Bool (whole.repeats (number + 1))) [
+  last_again number l time at (τ, (a, σ, shown, early, below, over)) = elim (cases_Bool (whole.repeats (number + 1))) [
     | inl repeats ↦ (
       a,
       σ,
@@ -456,12 +458,12 @@ module _ (s : Settings) (log : List Line) (t : Timing) (timed : s.plan.timing �
       packet_before (Some τ) line None m = refl
       packet_before (Some τ) line (Some x) m = refl
 
-      by_time : {at : ℕ} (l : FrameLine s log at) (m : Moments) (there : frames.FrameThere) (time : Option ℕ) → time_there l ≡ time → (taken : TakenFrame)
+      by_time : {at : ℕ} (l : FrameLine s log at) (m : Moments) (seen_there : frames.FrameThere) (time : Option ℕ) → time_there l ≡ time → (taken : TakenFrame)
           → taken_frame time l.f l.at.past.number (sighted_behind nothing_sighted (noted_newly s l.at.past (time_there l) l.f l.packet)) ≡ Some taken
-          → next.moments.before ≡ (moments_behind s there.gap there.anew time there.f there.line there.notes there.ending m).before
+          → next.moments.before ≡ (moments_behind s seen_there.gap seen_there.anew time seen_there.f seen_there.line seen_there.notes seen_there.ending m).before
           → (τ : ℕ) × (next.moments.before ≡ Some τ)
-      by_time l m there None at taken is before = absurd (none-some taken is)
-      by_time l m there (Some τ) at taken is before = (τ, before ∙ (frames.timed_frame s t timed n there τ m).0.1)
+      by_time l m seen_there None at taken is before = absurd (none-some taken is)
+      by_time l m seen_there (Some τ) at taken is before = (τ, before ∙ (frames.timed_frame s t timed n seen_there τ m).0.1)
 
   abbrev Holds : ℕ → AuditPast → Type 0
   Holds number past = IsHeld number past.moments × IsTimed past

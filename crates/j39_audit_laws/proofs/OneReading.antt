@@ -12,6 +12,7 @@ use Rattle.j39_audit.specs.AuditText.{AuditPast, AuditsFrame, AuditsLine, Audits
 use Rattle.j39_audit.specs.Breaks.{line_time}
 use Rattle.j39_audit.specs.Looking.{IsPacketOf}
 use Rattle.j39_audit.specs.Settings.{Settings}
+use Rattle.std.proofs.lemmas.Bool.{true≢false}
 
 pub one_packet_of : (f : Frame) (p q : Option Packet) → IsPacketOf f p → IsPacketOf f q → p ≡ q
 one_packet_of f (Some p) (Some q) a b = ap Some (one_packet f p q a b)

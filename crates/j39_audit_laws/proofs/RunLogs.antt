@@ -1,6 +1,6 @@
 -- The frames that are read of a log, with the claims before each.
 use Rattle.std.proofs.Common.{◌≡◌, ◌≢◌, ◌⊎◌, ℕ, ◌++◌, ◌∷◌, [], List, Bool, true, false, cond}
-use Rattle.std.proofs.Common.{inl, inr, refl, sym, ap, ◌∙◌, subst, append_assoc, Option, None}
+use Rattle.std.proofs.Common.{inl, inr, refl, sym, ap, ◌∙◌, subst, append_assoc, eqb-true, Option, None}
 use Rattle.j39_id.proofs.LineLaws.{not_both, one_fault, one_spelled}
 use Rattle.j39_id.specs.FrameLine.{HasLineFault, Spells}
 use Rattle.j39_id.specs.Lines.{Line, Short as ShortLine, Long}
@@ -10,14 +10,29 @@ use Rattle.j39_id.specs.declared.line_error.LineError.TheVariants.{Empty, NoHash
 use Rattle.j39_follow.proofs.OneText.{one_interface, one_part}
 use Rattle.j39_follow.specs.LogLines.{IsElsewhere, IsReadPart, NamesInterface, interface_behind}
 use Rattle.j39_tp.specs.declared.packet.Packet.{Packet}
-use Rattle.j39_audit.specs.AuditText.{AuditPast, AuditsLine, AuditsLines, claims_before, nothing_read, passed_by, past_with_frame, with_next_number}
+use Rattle.j39_audit.specs.AuditText.{AuditPast, AuditsLine, AuditsLines, claims_before, nothing_read, passed_by, past_with_frame, with_next_number, past_again, past_with_again, noted_newly}
 use Rattle.j39_audit.specs.Breaks.{breaks, line_time}
-use Rattle.j39_audit.specs.Claiming.{Heard, HeardClaims, broken_off, with_claim}
+use Rattle.j39_audit.specs.Claiming.{Heard, HeardClaims, broken_off, with_claim, newest_of, is_at}
 use Rattle.j39_audit.specs.Looking.{claims_behind, is_claim}
 use Rattle.j39_audit.specs.Settings.{Settings}
 use Rattle.j39_audit_laws.specs.AuditedRuns.{AreReadAs}
 use Rattle.j39_audit_laws.specs.FoundLines.{IsFrameAt, IsLineOf, IsShortAt}
 use Rattle.j39_audit_laws.proofs.RunFrames.{claims_behind_those, claims_of, heard_of}
+use Rattle.j39_audit.specs.Again.{is_again, is_again_behind, is_same_frame, is_too_soon, taken_frame}
+use Rattle.j39_audit.specs.declared.again.TakenFrame.{TakenFrame}
+use Rattle.j39_audit.specs.declared.tally.Sighting.{Sighting}
+use Rattle.j39_audit.specs.MessageStreams.{nothing_sighted, sighted_behind}
+use Rattle.j39_audit_laws.proofs.Walk.{taken_with}
+use Rattle.j39_id.proofs.SameFrame.{same_frame}
+use Rattle.j39_id.specs.Ident.{bits}
+use Rattle.std.specs.Str.{bytes_eq}
+use Rattle.std.proofs.lemmas.Slice.Eq.{bytes_eq-Decides}
+use Rattle.std.proofs.lemmas.Bool.{true≢false, and_parts, cond-true, cond-false, cases_Bool}
+use Rattle.std.proofs.lemmas.Option.{none-some, same_Some}
+use Rattle.j39_network.specs.declared.plan.timing.Timing.{Timing}
+use Rattle.j39_network.specs.declared.plan.Plan.{Plan}
+use Rattle.std.specs.Option.{option_map_or}
+use Rattle.std.specs.Prelude.{Some, ◌==◌}
 
 -- ---- one line
 
@@ -82,6 +97,7 @@ break_claims s claims heard false are = are
 
 more_claims : (s : Settings) (claims : HeardClaims) (heard : List Frame) (f : Frame) → AreClaimsOf s claims heard
     → AreClaimsOf s (claims_behind s f claims) (heard ++ f ∷ [])
+unfolding newest_of
 more_claims s claims heard f are =
     let behind : claims_of s.plan [] (heard ++ f ∷ []) ≡ cond (is_claim f) (heard_of s.plan f ∷ claims_of s.plan [] heard) (claims_of s.plan [] heard) =
     claims_behind_those s.plan [] heard (f ∷ []) in
@@ -96,12 +112,12 @@ more_claims s claims heard f are =
     ] behind
   where
     both_newest : (u : ℕ) (h : Heard) (xs ys : List Heard) → newest_of u xs ≡ newest_of u ys → newest_of u (h ∷ xs) ≡ newest_of u (h ∷ ys)
-    unfolding newest_of
-    both_newest u h xs ys same = ap (λ (o : Option ℕ). if is_at h.unit u then Some h.source else o) same
+    both_newest u h xs ys same = ap (λ (o : Option ℕ). cond (is_at h.unit u) (Some h.source) o) same
 
 -- with a frame that is heard again, of which the claim, if it is one, is the newest
 again_claims : (s : Settings) (claims : HeardClaims) (heard : List Frame) (f : Frame) → AreClaimsOf s claims heard
     → (is_claim f ≡ true → (rest : List Heard) × (claims.all ≡ heard_of s.plan f ∷ rest)) → AreClaimsOf s claims (heard ++ f ∷ [])
+unfolding newest_of
 again_claims s claims heard f are newest =
     let behind : claims_of s.plan [] (heard ++ f ∷ []) ≡ cond (is_claim f) (heard_of s.plan f ∷ claims_of s.plan [] heard) (claims_of s.plan [] heard) =
     claims_behind_those s.plan [] heard (f ∷ []) in
@@ -118,7 +134,6 @@ again_claims s claims heard f are newest =
     }
   where
     once_more : (u : ℕ) (h : Heard) (rest xs ys : List Heard) → xs ≡ h ∷ rest → newest_of u xs ≡ newest_of u ys → newest_of u xs ≡ newest_of u (h ∷ ys)
-    unfolding newest_of
     once_more u h rest xs ys row same =
         elim (is_at h.unit u) as (λ b. is_at h.unit u ≡ b → newest_of u xs ≡ cond b (Some h.source) (newest_of u ys)) [
           | true ↦ λ e. ap (newest_of u) row ∙ cond-true (is_at h.unit u) (Some h.source) (newest_of u rest) e
@@ -169,12 +184,12 @@ record IsAgainRead (past next : AuditPast) (named : Option (List ℕ)) : Type 0 
   taken : next.taken ≡ past.taken
 
 again_read : (s : Settings) (past : AuditPast) (time : Option ℕ) (named : Option (List ℕ)) → IsAgainRead past (past_with_again s time named past) named
+unfolding past_again
 again_read s past time named =
     let same = of_taken past.taken time in
     record { claims = same.0; interface = refl; taken = same.1 }
   where
     of_taken : (taken : Option TakenFrame) (time : Option ℕ) → ((past_again s taken time past).claims ≡ past.claims) × ((past_again s taken time past).taken ≡ past.taken)
-    unfolding past_again
     of_taken None time = (refl, refl)
     of_taken (Some one) None = (refl, refl)
     of_taken (Some one) (Some τ) = (refl, refl)

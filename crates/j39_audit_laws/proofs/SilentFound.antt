@@ -1,9 +1,9 @@
 -- A flow of which no message comes for long, while its ends are there, is reported as silent.
 use Rattle.std.proofs.Common.{◌≡◌, ◌≢◌, ◌⊎◌, ℕ, ◌+◌, ◌-◌, ◌*◌, ◌^◌, ◌<◌, ◌≤◌, ◌||◌, List, [], Bool, true, false, length}
 use Rattle.std.proofs.Common.{inl, inr, refl, sym, ap, ◌∙◌, subst, arith, Option, Some, None}
-use Rattle.std.specs.Prelude.{Contains}
+use Rattle.std.specs.Prelude.{Contains, ◌==◌}
 use Rattle.std.specs.List.{slice_get}
-use Rattle.std.proofs.lemmas.Bool.{cases_eq, cases_lt, false_from_ne_true}
+use Rattle.std.proofs.lemmas.Bool.{cases_eq, cases_lt, false_from_ne_true, cond-false, ne_eqb}
 use Rattle.std.proofs.lemmas.Option.{same_Some}
 use Rattle.j39_id.specs.Ident.{pgn_of}
 use Rattle.j39_id.specs.Lines.{Line, Short as ShortLine}
@@ -30,6 +30,8 @@ use Rattle.j39_audit_laws.specs.SilentFlows.{AreFramesOnBus, IsEndOfFlow, IsLong
 use Rattle.j39_audit_laws.proofs.PauseFrames as frames
 use Rattle.j39_audit_laws.proofs.PauseSteps.{AreShown, IsLate, IsOpen, IsStated, Watched, all_keep, all_stated, bound, reported_on}
 use Rattle.j39_audit_laws.proofs.Walk.{IsFrameNext, IsNext, IsNoFrame, at_end, bad_no_frame, inside_log, load_with, one_frame_at}
+use Rattle.j39_audit.specs.Again.{newest_again, newest_later, with_later_moment}
+use Rattle.j39_audit.specs.declared.pauses.Newest.{Newest}
 
 -- where a frame stands there again that was of another flow or of none, the newest message of this one stays
 newest_of_others : (flow : Option ℕ) (moment : ℕ) (newest : ℕ → Option Newest) (n : ℕ) → flow ≢ Some n → newest_again flow moment newest n ≡ newest n

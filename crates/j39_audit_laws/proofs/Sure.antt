@@ -1,7 +1,7 @@
 -- Who sent the frames of a log can be reported by who the sure senders are, and of the frames of a run each unit keeps its part then.
 use Rattle.std.proofs.Common.{◌≡◌, ◌≢◌, ◌⊎◌, ℕ, ◌+◌, ◌≤◌, ◌==◌, ◌++◌, ◌∷◌, [], List, true, false, length, if◌then◌else◌}
 use Rattle.std.proofs.Common.{inl, inr, refl, sym, ap, ◌∙◌, subst, arith, append_assoc, Option, Some, None}
-use Rattle.std.proofs.lemmas.Bool.{cases_Bool, cases_eq, cond-false, cond-true, eq-eqb, ne_eqb}
+use Rattle.std.proofs.lemmas.Bool.{cases_Bool, cases_eq, cond-false, cond-true, eq-eqb, ne_eqb, true≢false}
 use Rattle.std.proofs.lemmas.List.{append-nil, length-append}
 use Rattle.std.proofs.lemmas.Option.{none-some, same_Some}
 use Rattle.j39_id.proofs.LineLaws.{not_both, one_spelled}
@@ -31,6 +31,7 @@ use Rattle.j39_audit_laws.proofs.OneReading.{one_log_read}
 use Rattle.j39_audit_laws.proofs.Own.{claim_number}
 use Rattle.j39_audit_laws.proofs.RunAudits.{AreSound, its_claim, its_frame, its_sender}
 use Rattle.j39_audit_laws.proofs.RunMessages.{other_none}
+use Rattle.j39_audit.specs.Again.{is_again}
 
 abbrev unit_in : SureSender → Option ℕ
 unit_in (OfUnit u) = Some u

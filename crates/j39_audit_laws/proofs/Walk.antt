@@ -1,5 +1,5 @@
 -- One line of a log after another: it is passed over, skipped or bad, or a frame.
-use Rattle.std.specs.Prelude.{nat_lt}
+use Rattle.std.specs.Prelude.{nat_lt, true, Some, None}
 use Rattle.std.proofs.Common.{◌≡◌, ◌≢◌, ◌⊎◌, ℕ, ◌+◌, ◌≤◌, ◌++◌, ◌∷◌, [], List, length}
 use Rattle.std.proofs.Common.{inl, inr, refl, sym, ap, ◌∙◌, subst, append_assoc, arith, Option}
 use Rattle.std.proofs.lemmas.List.{append-nil, length-append}
@@ -12,7 +12,7 @@ use Rattle.j39_id.specs.declared.line_error.LineError.TheVariants.{Empty, NoHash
 use Rattle.j39_follow.proofs.OneText.{one_interface, one_part, one_time}
 use Rattle.j39_follow.specs.LogLines.{IsElsewhere, IsReadPart, IsTimeText, NamesInterface}
 use Rattle.j39_tp.specs.declared.packet.Packet.{Packet}
-use Rattle.j39_audit.specs.AuditText.{AuditPast, AuditsLine, AuditsLines, bad_line, broadcasts_there, claims_before, counted_for, moments_with_frame, nothing_read, passed_by, past_with_frame, with_next_number}
+use Rattle.j39_audit.specs.AuditText.{AuditPast, AuditsLine, AuditsLines, bad_line, broadcasts_there, claims_before, counted_for, moments_with_frame, nothing_read, passed_by, past_with_frame, with_next_number, past_again, past_with_again, with_again, noted_newly}
 use Rattle.j39_audit.specs.BegunBroadcasts.{packet_with}
 use Rattle.j39_audit.specs.Breaks.{line_time}
 use Rattle.j39_audit.specs.Claiming.{HeardClaims}
@@ -21,11 +21,16 @@ use Rattle.j39_audit.specs.Moments.{behind_gap, with_packet_stream}
 use Rattle.j39_audit.specs.SentMessages.{noted_at}
 use Rattle.j39_audit.specs.Settings.{Settings, by_load}
 use Rattle.j39_audit.specs.declared.mark.Word.TheVariants.{Short as ShortWord}
-use Rattle.j39_audit.proofs.Hearing.{as_many_lines, frame_number, line_more}
+use Rattle.j39_audit.proofs.Hearing.{as_many_lines, frame_number, line_more, again_number}
 use Rattle.j39_audit_laws.specs.FoundLines.{IsFrameAt, IsLineOf, IsReadHere}
-use Rattle.j39_audit_laws.specs.PauseLines.{IsBadAt, IsPassedOver}
+use Rattle.j39_audit_laws.specs.PauseLines.{IsBadAt, IsPassedOver, IsAgainAt}
 use Rattle.j39_audit_laws.proofs.Lines.{frame_at, same_cut}
 use Rattle.j39_audit_laws.proofs.OneReading.{one_log_read, one_packet_of}
+use Rattle.j39_audit.specs.Again.{is_again, moments_again, taken_frame}
+use Rattle.j39_audit.specs.declared.again.TakenFrame.{TakenFrame}
+use Rattle.j39_audit.specs.MessageStreams.{nothing_sighted, sighted_behind}
+use Rattle.std.proofs.lemmas.Bool.{true≢false}
+use Rattle.j39_network.specs.declared.plan.Plan.{Plan}
 
 -- what the times report by load behind a frame
 pub load_with : (s : Settings) (past : AuditPast) (time : Option ℕ) (named : Option (List ℕ)) (f : Frame) (packet : Option Packet)

@@ -107,7 +107,7 @@ said s log text verdict a m is =
     let look : Look = look_at end in
     let counted = is.counted in
     let some : accusation_count s look ≢ 0 = λ none. absurd (omega (arith, none, counted)) in
-    let whole : IsIn (accusing_line s.plan m (look m)) (text_by s (counts_of end) look) =
+    let whole : IsIn (accusing_line s.plan m (look m)) (text_by s (counts_of end) end.again look) =
     in_more (accusing_line s.plan m (look m)) (accusations s look) _ is.line in
     record {
       findings = a.verdict_is ∙ cond-false (accusation_count s look == 0) Done Findings (ne_eqb (accusation_count s look) 0 some);

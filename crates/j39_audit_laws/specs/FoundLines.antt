@@ -23,6 +23,7 @@ use Rattle.j39_audit.specs.declared.mark.Word.TheVariants.{Short, Stranger, Nobo
 use Rattle.j39_audit.specs.declared.senders.SureSender.{SureSender}
 use Rattle.j39_audit.specs.declared.senders.SureSender.TheVariants.{Unit as OfUnit, Nobody}
 use Rattle.j39_audit.specs.declared.tally.Occurrences.{Occurrences}
+use Rattle.j39_audit.specs.Again.{is_again}
 
 -- ---- lines
 

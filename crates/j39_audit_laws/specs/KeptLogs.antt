@@ -1,5 +1,5 @@
 -- What a whole log reports of a bus that keeps to its plan, by load.
-use Rattle.std.specs.Prelude.{◌≡◌, ◌≢◌, ◌⊎◌, ℕ, ◌+◌, ◌*◌, ◌<◌, ◌≤◌, Bool, true, List, length, Option, Some}
+use Rattle.std.specs.Prelude.{◌≡◌, ◌≢◌, ◌⊎◌, ℕ, ◌+◌, ◌*◌, ◌<◌, ◌≤◌, Bool, true, List, length, Option, Some, false}
 use Rattle.std.specs.List.{slice_get}
 use Rattle.std.specs.Option.{option_map_or}
 use Rattle.j39_id.specs.Lines.{Line}
@@ -18,6 +18,7 @@ use Rattle.j39_load.specs.KeptTimes.{IsReportedBound}
 use Rattle.j39_load.specs.SentFrames.{FrameSources, HasPeriodMs, Held, IsMsBehind, IsSessionFrame, IsSingleFrame, RequestToSend}
 use Rattle.j39_load.specs.declared.waits.delay.Delay.{Delay}
 use Rattle.j39_audit.specs.AuditText.{AuditPast, AuditsLines, log_ended, look_at, mark_at, nothing_read}
+use Rattle.j39_audit.specs.Breaks.{line_time}
 use Rattle.j39_audit.specs.Settings.{Settings, logger_error}
 use Rattle.j39_audit.specs.declared.by_load.Bound.TheVariants.{Bus}
 use Rattle.j39_audit.specs.declared.mark.Word.TheVariants.{NearFlow, NearOrLate}

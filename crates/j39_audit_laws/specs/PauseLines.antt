@@ -1,7 +1,7 @@
 -- What the lines of a log are for a flow with a pause: its messages, frames of its ends, and where its pause ends.
 use Rattle.std.specs.Prelude.{◌≡◌, ◌≢◌, ◌⊎◌, ◌||◌, ℕ, true, List, [], Contains, Option, Some}
 use Rattle.std.specs.List.{slice_get}
-use Rattle.j39_id.specs.FrameLine.{HasLineFault}
+use Rattle.j39_id.specs.FrameLine.{HasLineFault, Spells}
 use Rattle.j39_id.specs.Ident.{pgn_of}
 use Rattle.j39_id.specs.Lines.{Line, Short as ShortLine, Long}
 use Rattle.j39_id.specs.declared.frame.Frame.{Frame}
@@ -9,7 +9,7 @@ use Rattle.j39_id.specs.declared.line_error.LineError.{LineError}
 use Rattle.j39_id.specs.declared.line_error.LineError.TheVariants.{Empty, ShortIdent}
 use Rattle.j39_network.specs.declared.plan.flow_plan.FlowPlan.{FlowPlan}
 use Rattle.j39_network.specs.declared.plan.group_plan.GroupPlan.{GroupPlan}
-use Rattle.j39_follow.specs.LogLines.{IsElsewhere, IsReadPart, NamesInterface}
+use Rattle.j39_follow.specs.LogLines.{IsElsewhere, IsReadPart, NamesInterface, IsTimeText}
 use Rattle.j39_tp.specs.declared.packet.Packet.{Packet}
 use Rattle.j39_audit.specs.AuditText.{AuditPast, counted_for, gap_before, noted_newly}
 use Rattle.j39_audit.specs.Breaks.{line_time}
@@ -21,6 +21,8 @@ use Rattle.j39_audit.specs.Pauses.{ending_of, is_with_unit, stands_for, unclear_
 use Rattle.j39_audit.specs.Settings.{Settings}
 use Rattle.j39_audit.specs.declared.pauses.Ending.TheVariants.{OfUnit as EndsOfUnit, OfAll as EndsOfAll}
 use Rattle.j39_audit_laws.specs.FoundLines.{IsFrameAt, IsLineOf, IsReadHere}
+use Rattle.j39_audit.specs.Again.{is_again}
+use Rattle.j39_audit.specs.declared.again.TakenFrame.{TakenFrame}
 
 -- ---- lines
 
