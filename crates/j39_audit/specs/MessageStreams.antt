@@ -41,9 +41,9 @@ abbrev pub stream_mark : Word → ℕ → Mark
 stream_mark word place = record { word = word; subject = place; group = 0 }
 
 -- a message of one frame is queued within the jitter, and one of several is announced within a period more
-abbrev pub latest_ms : Pace → Bool → ℕ
-latest_ms pace true = pace.jitter
-latest_ms pace false = pace.period + pace.jitter
+abbrev pub queued_within_ms : Pace → Bool → ℕ
+queued_within_ms pace true = pace.jitter
+queued_within_ms pace false = pace.period + pace.jitter
 
 -- the messages of a stream are a flow's single frames where its group has none that are longer than a frame, else what announces them
 abbrev pub is_in_stream : GroupPlan → Bool → Bool
@@ -63,7 +63,7 @@ paced_stream s t f n group pace pause =
     then Some (record {
       mark = stream_mark NearFlow n;
       step = shortest_us t pace.period;
-      slack = slack_by s.bound (response_of s n) (longest_us t (latest_ms pace (is_single (pgn_of f.ident))));
+      slack = slack_by s.bound (response_of s n) (longest_us t (queued_within_ms pace (is_single (pgn_of f.ident))));
       pause = pause;
     })
     else None

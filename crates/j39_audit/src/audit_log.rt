@@ -12,7 +12,7 @@ ghost use Rattle.j39_audit.specs.MessageStreams.{nothing_sighted, sighted_behind
 ghost use Rattle.j39_audit.specs.Moments.{Moments as SomeMoments, with_packet_stream};
 ghost use Rattle.j39_audit.specs.Pauses.{unclear_behind};
 ghost use Rattle.j39_audit.specs.Settings.{Settings};
-ghost use Rattle.j39_audit.specs.inside.Auditing.{AccordsWith, AreAllNear, HasAudited, FollowsFrame, HasAuditedWhole, IsWithinLines, RecallsAudit, TakesFrameLine, TakesFrameNew, TakesLine};
+ghost use Rattle.j39_audit.specs.inside.Auditing.{AccordsWith, AreAllNear, HasAudited, FollowsNewFrame, HasAuditedWhole, IsWithinLines, RecallsAudit, TakesFrameLine, TakesFrameNew, TakesLine};
 ghost use Rattle.j39_audit.specs.inside.Auditing.{AreOnlyTimesNew, RecallsTimes, tallied, times_behind};
 ghost use Rattle.j39_audit.specs.inside.Recalling.{AreNear, KnowsClaims, Notes, RecallsBroadcasts, RecallsMoments, known_by, settings_of};
 
@@ -276,7 +276,7 @@ impl<'a> AuditLog<'a> {
         ensures counts { self.new.counts ≡ self.old.counts }
         ensures again { self.new.again ≡ self.old.again }
         ensures frame { OnOk result ((past : AuditPast) (named : Option (List ℕ)) → AccordsWith self.old past → self.old.number ≡ past.number
-            → FollowsFrame self.new past time named frame.now) }
+            → FollowsNewFrame self.new past time named frame.now) }
     {
         let broken = breaks(self.basis.stamps, self.newest, time);
         let gap = ends_gap(

@@ -3,7 +3,7 @@ ghost use Rattle.std.specs.Prelude.{◌≡◌, ◌+◌, ◌≤◌, ◌<◌, ◌*
 ghost use Rattle.std.specs.Option.{option_and_then, option_copied, option_map};
 ghost use Rattle.j39_id.specs.Ident.{pgn_of};
 ghost use Rattle.j39_audit.specs.Looking.{is_single as is_single_number};
-ghost use Rattle.j39_audit.specs.MessageStreams.{flow_stream, is_in_stream, latest_ms, longest_us, paced_request, paced_stream, asked_stream, shortest_us};
+ghost use Rattle.j39_audit.specs.MessageStreams.{flow_stream, is_in_stream, queued_within_ms, longest_us, paced_request, paced_stream, asked_stream, shortest_us};
 ghost use Rattle.j39_audit.specs.MessageStreams.{flow_pause, flow_pause_of, is_claiming_there, stream_pause, shows_silence, sighted_stream, slack_by};
 ghost use Rattle.j39_audit.specs.inside.Recalling.{settings_of};
 
@@ -60,8 +60,8 @@ pub(crate) fn longest_us(timing: Timing, ms: u32) -> u64
 }
 
 // Within how many milliseconds of its moment a message is queued, or announced.
-fn latest_ms(pace: Pace, single: bool) -> u32
-    ensures value { result ≡ latest_ms pace single }
+fn queued_within_ms(pace: Pace, single: bool) -> u32
+    ensures value { result ≡ queued_within_ms pace single }
     ensures few { result < 2 ^ 17 }
 {
     if single {
@@ -181,7 +181,7 @@ fn paced_stream(
     if !is_in_stream(group, single) {
         return None;
     }
-    let jitter = longest_us(timing, latest_ms(pace, single));
+    let jitter = longest_us(timing, queued_within_ms(pace, single));
     Some(MessageStream {
         mark: make_mark(Word::NearFlow, place),
         step: shortest_us(timing, pace.period),

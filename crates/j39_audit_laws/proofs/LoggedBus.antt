@@ -39,7 +39,7 @@ use Rattle.j39_network.specs.declared.plan.to.To.TheVariants.{All as ToAll, One 
 use Rattle.j39_audit_laws.specs.FoundLines.{IsFrameAt}
 use Rattle.j39_audit_laws.specs.KeptLogs.{IsLogOfBus, IsWholeLog, KeepsItsPeriod}
 use Rattle.j39_audit_laws.specs.KeptParts.{CarriesPlan, CarriesPlanned, IsGroupMessage, KeepsOwnFrames, ShowsFrames, WireFrames}
-use Rattle.j39_audit_laws.specs.LoggedBuses.{CanBeLogged, CanPlansBeLogged, IsFrameOfFlow, IsOftenSent}
+use Rattle.j39_audit_laws.specs.LoggedBuses.{CanBeLogged, CanPlansBeLogged, IsPlannedFrameOf, IsOftenSent}
 use Rattle.j39_audit_laws.specs.MarkRecords.{IsNextTo, IsTimeOf}
 use Rattle.j39_audit_laws.specs.OwnPart.{AreItsOwn, IsItsAddress}
 use Rattle.j39_audit_laws.specs.PauseLines.{FrameLine, time_there, IsAgainAt}
@@ -72,7 +72,7 @@ of_two a b (x ∷ y ∷ before) line behind row =
 
 module _ (s : Settings) (apart : ArePlannedApart (units_of s.plan)) (written timing : Timing) (timed : s.plan.timing ≡ Some written) (f : ℕ) (flow : FlowPlan)
     (pace : Pace) (group : GroupPlan) (is : IsOftenSent s.plan f flow pace group) (frame : Frame) (packet : Option Packet) (packet_is : IsPacketOf frame packet)
-    (of_flow : IsFrameOfFlow s.plan flow group frame) where
+    (of_flow : IsPlannedFrameOf s.plan flow group frame) where
   -- ---- the bus
 
   abbrev bus : Schedule

@@ -38,7 +38,7 @@ use Rattle.j39_audit_laws.proofs.Walk.{IsFrameNext, IsNext, at_end, moments_with
 use Rattle.j39_timing.specs.Errors.{Damaged, IsBusWithErrors}
 use Rattle.j39_load.specs.SentFrames.{Held}
 use Rattle.j39_audit.specs.BegunBroadcasts.{packet_with}
-use Rattle.j39_audit.specs.MessageStreams.{latest_ms, longest_us, slack_by, stream_mark}
+use Rattle.j39_audit.specs.MessageStreams.{queued_within_ms, longest_us, slack_by, stream_mark}
 use Rattle.j39_audit.specs.Moments.{begun_anew, damaged_at_once, idle_behind, idle_mark, is_apart, leaves_idle, reach_back, shows_idle, since_behind, since_by, with_packet_stream}
 use Rattle.j39_audit.specs.declared.by_load.Bound.{Bound}
 use Rattle.j39_audit.specs.declared.by_load.Bound.TheVariants.{Bus}
@@ -72,7 +72,7 @@ module _ (s : Settings) (log : List Line) (t : Timing) (timed : s.plan.timing �
   step = shortest_us timing ms
 
   abbrev jitter : ℕ
-  jitter = latest_ms part.period.pace (nat_le part.group.most 8)
+  jitter = queued_within_ms part.period.pace (nat_le part.group.most 8)
 
   -- the clock counts from a moment long before the zero of the log
   abbrev logs : Lines
@@ -95,12 +95,12 @@ module _ (s : Settings) (log : List Line) (t : Timing) (timed : s.plan.timing �
   its_frame p inside message = elim (part.frames p inside message) [
     | inl (least, is) ↦
         let sort : nat_le part.group.most 8 ≡ true = le-leb part.group.most 8 least in
-        subst (λ (b : Bool). IsInTime (latest_ms part.period.pace b) p) (sym sort)
+        subst (λ (b : Bool). IsInTime (queued_within_ms part.period.pace b) p) (sym sort)
         (subst (λ (x : Pace). IsInTime x.jitter p) (same_pace is.flow is.pace is.its is.paced)
         (is.release_first, within_ms timing.bitrate timing.drift is.pace.jitter (release p) (bus.queued p) none is.jitter_at_most))
     | inr (more, is) ↦
         let sort : nat_le part.group.most 8 ≡ false = lt-leb part.group.most 8 more in
-        subst (λ (b : Bool). IsInTime (latest_ms part.period.pace b) p) (sym sort)
+        subst (λ (b : Bool). IsInTime (queued_within_ms part.period.pace b) p) (sym sort)
         (subst (λ (x : Pace). IsInTime (x.period + x.jitter) p) (same_pace is.flow is.pace is.its is.paced)
         (is.release_first, within_ms timing.bitrate timing.drift (is.pace.period + is.pace.jitter) (release p) (bus.queued p) none is.jitter_at_most))
   ]
@@ -115,8 +115,8 @@ module _ (s : Settings) (log : List Line) (t : Timing) (timed : s.plan.timing �
       (sym grouped ∙ ap (λ (o : Option FlowPlan). option_and_then (λ (y : FlowPlan). slice_get s.plan.groups.items y.group) o) part.period.its ∙ part.group_is) in
       let is = of_stream group pace e2 in (
         is.0 ∙ ap (λ (p : Pace). shortest_us timing p.period) of_pace ∙ ap (shortest_us timing) part.period.is,
-        is.1 ∙ ap Some (ap (λ (p : Pace). longest_us timing (latest_ms p (nat_le group.most 8))) of_pace
-            ∙ ap (λ (g : GroupPlan). longest_us timing (latest_ms part.period.pace (nat_le g.most 8))) of_group ∙ (exact_clocks t none).longest jitter),
+        is.1 ∙ ap Some (ap (λ (p : Pace). longest_us timing (queued_within_ms p (nat_le group.most 8))) of_pace
+            ∙ ap (λ (g : GroupPlan). longest_us timing (queued_within_ms part.period.pace (nat_le g.most 8))) of_group ∙ (exact_clocks t none).longest jitter),
       )))
     where
       -- the stream has single frames where these are all
@@ -125,7 +125,7 @@ module _ (s : Settings) (log : List Line) (t : Timing) (timed : s.plan.timing �
       of_sort group false inside = sym (lt-leb group.most 8 (ltb-true 8 group.most inside))
 
       of_stream : (group : GroupPlan) (pace : Pace) → paced_stream s t f n group pace (stream_pause s t n) ≡ Some x
-          → (x.step ≡ shortest_us timing pace.period) × (x.slack ≡ Some (longest_us timing (latest_ms pace (nat_le group.most 8))))
+          → (x.step ≡ shortest_us timing pace.period) × (x.slack ≡ Some (longest_us timing (queued_within_ms pace (nat_le group.most 8))))
       of_stream group pace is =
           let one : Bool = is_single (pgn_of f.ident) in
           elim (cases_Bool (is_in_stream group one)) [
@@ -133,8 +133,8 @@ module _ (s : Settings) (log : List Line) (t : Timing) (timed : s.plan.timing �
                 let same = same_Some _ x (sym (cond-true (is_in_stream group one) _ None inside) ∙ is) in (
                   sym (ap (λ (y : MessageStream). y.step) same),
                   sym (ap (λ (y : MessageStream). y.slack) same)
-                      ∙ ap (λ (b : Bound). slack_by b (response_of s n) (longest_us timing (latest_ms pace one))) by_bus
-                      ∙ ap (λ (b : Bool). Some (longest_us timing (latest_ms pace b))) (of_sort group one inside),
+                      ∙ ap (λ (b : Bound). slack_by b (response_of s n) (longest_us timing (queued_within_ms pace one))) by_bus
+                      ∙ ap (λ (b : Bool). Some (longest_us timing (queued_within_ms pace b))) (of_sort group one inside),
                 )
             | inr other ↦ absurd (none-some x (sym (cond-false (is_in_stream group one) _ None other) ∙ is))
           ]

@@ -42,7 +42,7 @@ pub record IsOftenSent (plan : Plan) (f : ℕ) (flow : FlowPlan) (pace : Pace) (
   pub unasked : is_answering plan.requests.items flow ≡ false
 
 -- a frame of the flow, from its planned address, to the planned one of its receiver
-pub record IsFrameOfFlow (plan : Plan) (flow : FlowPlan) (group : GroupPlan) (frame : Frame) : Type 0 where
+pub record IsPlannedFrameOf (plan : Plan) (flow : FlowPlan) (group : GroupPlan) (frame : Frame) : Type 0 where
   pub ident : bits frame.ident
       ≡ identifier_of group.priority group.pgn (goes_to (λ u. (unit_at (units_of plan) u).preferred) flow.to) (unit_at (units_of plan) flow.sender).preferred
   pub message : IsGroupMessage group frame.payload.items
@@ -79,4 +79,4 @@ pub record CanBeLogged (s : Settings) (timing : Timing) (f : ℕ) (frame : Frame
 abbrev pub CanPlansBeLogged : Settings → Type 0
 CanPlansBeLogged s = ArePlannedApart (units_of s.plan) → (written timing : Timing) → s.plan.timing ≡ Some written → (f : ℕ) (flow : FlowPlan) (pace : Pace)
     (group : GroupPlan) → IsOftenSent s.plan f flow pace group → (frame : Frame) (packet : Option Packet) → IsPacketOf frame packet
-    → IsFrameOfFlow s.plan flow group frame → CanBeLogged s timing f frame
+    → IsPlannedFrameOf s.plan flow group frame → CanBeLogged s timing f frame

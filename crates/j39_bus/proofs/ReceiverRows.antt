@@ -12,7 +12,7 @@ use Rattle.j39_queues.proofs.Tables.{cell_is, row_is, tabled_set, with_cell_at, 
 use Rattle.j39_world.specs.Flows.{window_at}
 use Rattle.j39_world.specs.World.{changed_pair}
 use Rattle.j39_bus.specs.BusState.{Holding, ReceiverTable, closed, holding_at}
-use Rattle.j39_bus.specs.inside.Receivers.{IsAnswering, IsReceivers, ReceiverRow, ReceiverSlot, holding_of, holdings_of, slot_at}
+use Rattle.j39_bus.specs.inside.Receivers.{AnswersWithWindow, IsReceivers, ReceiverRow, ReceiverSlot, holding_of, holdings_of, slot_at}
 use Rattle.j39_bus.proofs.Worlds.{any_default}
 
 abbrev pub slots : ReceiverRow → List ReceiverSlot
@@ -64,8 +64,8 @@ module _ (windows : List ℕ) (rows : List ReceiverRow) (was : ReceiverTable) (i
           default (x ∷ l) zero inside at = sym at
           default (x ∷ l) (suc k) inside at = default l k (omega arith) at
 
-      pub answers_here : IsAnswering (window_at windows v) slot
-      answers_here = subst (IsAnswering (window_at windows v)) slot_is (well.answering v u)
+      pub answers_here : AnswersWithWindow (window_at windows v) slot
+      answers_here = subst (AnswersWithWindow (window_at windows v)) slot_is (well.answering v u)
 
       -- once it is another one
       module _ (new : ReceiverSlot) where
@@ -100,7 +100,7 @@ module _ (windows : List ℕ) (rows : List ReceiverRow) (was : ReceiverTable) (i
             within : map holding_of (set row.items u new) ≡ map holding_of row.items
             within = map-set_same holding_of row.items u new slot (same ∙ ap holding_of at_u)
 
-        pub receivers_after : IsAnswering (window_at windows v) new → IsReceivers windows after
+        pub receivers_after : AnswersWithWindow (window_at windows v) new → IsReceivers windows after
         receivers_after answers = record {
           table = record {
             rows = length-holdings after ∙ length-set rows v (with_item row u new) ∙ count;
@@ -109,7 +109,7 @@ module _ (windows : List ℕ) (rows : List ReceiverRow) (was : ReceiverTable) (i
                 ∙ with_cell_columns closed (holdings_of rows) v u (holding_of new) seen_v s ∙ well.table.columns s inside;
           };
           lets_some = well.lets_some;
-          answering = λ s t. subst (IsAnswering (window_at windows s)) (sym (at s t)) (either s t);
+          answering = λ s t. subst (AnswersWithWindow (window_at windows s)) (sym (at s t)) (either s t);
         }
           where
             at : (s t : ℕ) → slot_at after s t ≡ changed_pair (slot_at rows) v u new s t
@@ -122,7 +122,7 @@ module _ (windows : List ℕ) (rows : List ReceiverRow) (was : ReceiverTable) (i
                 slots_set l = map-set slots rows v (with_item row u new)
                     ∙ ap (λ (r : List ReceiverSlot). set (map slots rows) v (set r u new)) (sym (get_or-map slots rows v row [] in_v ∙ ap slots (sym at_v)))
 
-            either : (s t : ℕ) → IsAnswering (window_at windows s) (changed_pair (slot_at rows) v u new s t)
+            either : (s t : ℕ) → AnswersWithWindow (window_at windows s) (changed_pair (slot_at rows) v u new s t)
             either s t = elim (cases_Bool (eqb s v && eqb t u)) [
               | inl both ↦ rw (both, eqb-true s v (and_parts (eqb s v) (eqb t u) both).0) answers
               | inr other ↦ rw other (well.answering s t)
@@ -173,6 +173,6 @@ receivers_first windows rows positive are =
         columns = λ s inside. ap (λ (l : List (List Holding)). length (get_or l s [])) (rows_first n rows are) ∙ length_row n s n closed inside;
       };
       lets_some = positive;
-      answering = λ v u. subst (IsAnswering (window_at windows v))
+      answering = λ v u. subst (AnswersWithWindow (window_at windows v))
           (sym (ap (λ (l : List (List ReceiverSlot)). get_or (get_or l v []) u None) are ∙ get_row n v None n u)) tt;
     }

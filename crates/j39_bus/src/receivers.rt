@@ -6,7 +6,7 @@ ghost use Rattle.j39_world.specs.Flows.{window_at};
 ghost use Rattle.j39_tp.specs.Receiver.{hears, is_complete, receives, timed_out, gives_up, is_open_at, message_of};
 ghost use Rattle.j39_world.specs.World.{changed_pair};
 ghost use Rattle.j39_bus.specs.BusState.{closed, holding_at};
-ghost use Rattle.j39_bus.specs.inside.Receivers.{HasRoomFor, IsAnswering, IsReady, answering, holding_of, left_at};
+ghost use Rattle.j39_bus.specs.inside.Receivers.{HasRoomFor, AnswersWithWindow, IsReady, answering, holding_of, left_at};
 ghost use Rattle.j39_bus.specs.inside.Receivers.{left_of, message_in, without_holdings_of};
 ghost use Rattle.j39_bus.specs.inside.Receivers.{receiver_at};
 
@@ -44,10 +44,10 @@ fn fill(
     packet: &Packet,
 ) -> Result<(), AllocError>
     requires window { 0 < window }
-    requires answering { IsAnswering window slot.old }
+    requires answering { AnswersWithWindow window slot.old }
     ensures same { holding_of slot.new ≡ holding_of slot.old }
     ensures ready { OnOk result (IsReady packet.now slot.new) }
-    ensures answering { IsAnswering window slot.new }
+    ensures answering { AnswersWithWindow window slot.new }
 {
     if packet.is_announcement() && slot.is_none() {
         let Some(receiver) = Receiver::new(window) else {
@@ -61,11 +61,11 @@ fn fill(
 // What a receiver does with a packet; where there is none, nothing.
 fn send_to_others(slot: &mut Option<Box<Receiver>>, packet: &Packet) -> Heard
     requires ready { IsReady packet.now slot.old }
-    ensures heard { (window : ℕ) → IsAnswering window slot.old
+    ensures heard { (window : ℕ) → AnswersWithWindow window slot.old
         → result ≡ (hears (Answering window) (holding_of slot.old).progress packet.now).1 }
-    ensures after { (window : ℕ) → IsAnswering window slot.old
+    ensures after { (window : ℕ) → AnswersWithWindow window slot.old
         → answering window (holding_of slot.new) ≡ receives (answering window (holding_of slot.old)) packet.now }
-    ensures answering { (window : ℕ) → IsAnswering window slot.old → IsAnswering window slot.new }
+    ensures answering { (window : ℕ) → AnswersWithWindow window slot.old → AnswersWithWindow window slot.new }
 {
     match slot {
         Some(receiver) => receiver.hear(packet),
@@ -86,7 +86,7 @@ fn is_open_in(slot: &Option<Box<Receiver>>) -> bool
 // A receiver that is not open is given up.
 fn leave(slot: &mut Option<Box<Receiver>>)
     ensures left { holding_of slot.new ≡ left_at (holding_of slot.old).progress (holding_of slot.old).bytes }
-    ensures answering { (window : ℕ) → IsAnswering window slot.old → IsAnswering window slot.new }
+    ensures answering { (window : ℕ) → AnswersWithWindow window slot.old → AnswersWithWindow window slot.new }
 {
     if !is_open_in(slot) {
         *slot = None;
@@ -100,7 +100,7 @@ fn room_for(
     packet: &Packet,
 ) -> Result<Vec<u8>, AllocError>
     ensures none { IfOk result (λ bytes. bytes.items ≡ []) }
-    ensures room { IfOk result (λ bytes. (window : ℕ) → IsAnswering window slot.now
+    ensures room { IfOk result (λ bytes. (window : ℕ) → AnswersWithWindow window slot.now
         → HasRoomFor (answering window (holding_of slot.now)) packet.now bytes) }
 {
     let size = match slot {
@@ -133,13 +133,13 @@ fn hear_in(
     packet: &Packet,
 ) -> Result<(Heard, Vec<u8>), AllocError>
     requires window { 0 < window }
-    requires answering { IsAnswering window slot.old }
+    requires answering { AnswersWithWindow window slot.old }
     ensures heard { IfOk result (λ r. r.0 ≡ (hears (Answering window) (holding_of slot.old).progress packet.now).1) }
     ensures after { OnOk result (holding_of slot.new ≡ left_of (receives (answering window (holding_of slot.old)) packet.now)) }
     ensures message { IfOk result (λ r. is_complete r.0 ≡ true
         → r.1.items ≡ message_in (receives (answering window (holding_of slot.old)) packet.now)) }
     ensures same { OnErr result (holding_of slot.new ≡ holding_of slot.old) }
-    ensures answering { IsAnswering window slot.new }
+    ensures answering { AnswersWithWindow window slot.new }
 {
     let mut bytes = room_for(alloc, slot, packet)?;
     fill(alloc, slot, window, packet)?;
@@ -153,11 +153,11 @@ fn hear_in(
 
 // What a receiver sends that has heard nothing in time. It is given up where it is not open.
 fn late_in(slot: &mut Option<Box<Receiver>>) -> Option<Packet>
-    ensures packet { (window : ℕ) → IsAnswering window slot.old
+    ensures packet { (window : ℕ) → AnswersWithWindow window slot.old
         → result ≡ (timed_out (Answering window) (holding_of slot.old).progress).1 }
-    ensures after { (window : ℕ) → IsAnswering window slot.old
+    ensures after { (window : ℕ) → AnswersWithWindow window slot.old
         → holding_of slot.new ≡ left_of (gives_up (answering window (holding_of slot.old))) }
-    ensures answering { (window : ℕ) → IsAnswering window slot.old → IsAnswering window slot.new }
+    ensures answering { (window : ℕ) → AnswersWithWindow window slot.old → AnswersWithWindow window slot.new }
 {
     let packet = match slot {
         Some(receiver) => receiver.late(),

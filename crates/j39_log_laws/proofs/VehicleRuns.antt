@@ -37,7 +37,7 @@ use Rattle.j39_follow.specs.VehicleLogs.{IsOfVehicle, ReportOfVehicle}
 use Rattle.j39_follow.proofs.Vehicles.Parties.{ReportAll}
 use Rattle.j39_follow.proofs.Vehicles.Reports.{same_report}
 use Rattle.j39_follow.proofs.Vehicles.Units.{of_box, report_alike, unit_kept}
-use Rattle.j39_log_laws.specs.Between.{AreJoined, ComesTo, EachGoesBetweenUnits, GoesToHolder, HasNumberOf, IsBetweenUnits, IsKnownAt, IsOfFlow}
+use Rattle.j39_log_laws.specs.Between.{AreJoined, ComesTo, EachGoesBetweenUnits, GoesToHolder, HasNumberOf, IsBetweenUnits, IsKnownAt, IsOfFlowOrTransport}
 use Rattle.j39_log_laws.specs.Between.{IsOfStep, IsSentBy, MessagesGoBetweenHolders, SendsTo, StandsBehind}
 use Rattle.j39_log_laws.specs.HolderReports.{HaveOwnNumbers}
 use Rattle.j39_log_laws.specs.ReportedFlows.{AreReportedAsBegun, EachClaims, LooksLike, untimed}
@@ -132,7 +132,7 @@ module _ (plan vehicle : Plan) (is : IsVehicleOf plan vehicle) (apart : AreDisti
   has_number : (f : ℕ) (i : Ident) → HasNumberOf vehicle f i → HasNumberOf plan f i
   has_number f i (flow, at, number) = (flow, sym (ap (λ (fs : List Flow). slice_get fs f) same_flows) ∙ at, number)
 
-  of_flow : (f : ℕ) (i : Ident) → IsOfFlow vehicle f i → IsOfFlow plan f i
+  of_flow : (f : ℕ) (i : Ident) → IsOfFlowOrTransport vehicle f i → IsOfFlowOrTransport plan f i
   of_flow f i (inl number) = inl (has_number f i number)
   of_flow f i (inr transport) = inr transport
 

@@ -53,13 +53,13 @@ abbrev pub HasNumberOf : Plan → ℕ → Ident → Type 0
 HasNumberOf plan f i = (flow : Flow) × (slice_get (flows_of plan) f ≡ Some flow) × (pgn_of i ≡ flow.pgn)
 
 -- a frame of the flow has this number, or is a transport frame
-abbrev pub IsOfFlow : Plan → ℕ → Ident → Type 0
-IsOfFlow plan f i = HasNumberOf plan f i ⊎ IsTransport (pgn_of i)
+abbrev pub IsOfFlowOrTransport : Plan → ℕ → Ident → Type 0
+IsOfFlowOrTransport plan f i = HasNumberOf plan f i ⊎ IsTransport (pgn_of i)
 
 -- what a step sends that begins a message is a frame of its flow, and one that is sent alone has its group's number; any other step sends
 -- transport frames
 abbrev pub IsOfStep : Plan → Step → Ident → Type 0
-IsOfStep plan (Begin f bytes) i = IsOfFlow plan f i
+IsOfStep plan (Begin f bytes) i = IsOfFlowOrTransport plan f i
 IsOfStep plan (Send f bytes) i = HasNumberOf plan f i
 IsOfStep plan _ i = IsTransport (pgn_of i)
 
@@ -131,7 +131,7 @@ MessagesGoBetweenHolders plan w =
 -- and it is a transport frame
 abbrev pub AreJoined : Plan → ℕ → To → Ident → Type 0
 AreJoined plan u to i =
-    ((f : ℕ) × FlowGoes plan f u to × IsOfFlow plan f i)
+    ((f : ℕ) × FlowGoes plan f u to × IsOfFlowOrTransport plan f i)
     ⊎ ((f : ℕ) × (v : ℕ) × (to ≡ One v) × FlowGoes plan f v (One u) × IsTransport (pgn_of i))
 
 -- it goes to all, or to an address behind which the one unit stands, if its identifier names any and this unit claims

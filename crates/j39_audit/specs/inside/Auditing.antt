@@ -103,7 +103,7 @@ times_behind s k gap anew time f line noted ending announced past = record past 
 }
 
 -- a frame of this time and of a line of this interface, as some packet or none, leads to what is followed now, and was seen so
-pub record FollowsFrame (new : AuditLog) (past : AuditPast) (time : Option ℕ) (named : Option (List ℕ)) (f : Frame) : Type 0 where
+pub record FollowsNewFrame (new : AuditLog) (past : AuditPast) (time : Option ℕ) (named : Option (List ℕ)) (f : Frame) : Type 0 where
   pub packet : Option Packet
   pub packet_is : IsPacketOf f packet
   pub follows : AccordsWith new (past_with_frame (settings_of new.basis) past time named f packet)

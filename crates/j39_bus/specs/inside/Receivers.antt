@@ -29,9 +29,9 @@ abbrev pub holdings_of : List ReceiverRow → List (List Holding)
 holdings_of rows = map (λ (r : ReceiverRow). map holding_of r.items) rows
 
 -- a receiver answers with this window
-abbrev pub IsAnswering : ℕ → ReceiverSlot → Type 0
-IsAnswering window None = Unit {0}
-IsAnswering window (Some b) = b.value.manner ≡ Answering window
+abbrev pub AnswersWithWindow : ℕ → ReceiverSlot → Type 0
+AnswersWithWindow window None = Unit {0}
+AnswersWithWindow window (Some b) = b.value.manner ≡ Answering window
 
 abbrev pub slot_at : List ReceiverRow → ℕ → ℕ → ReceiverSlot
 slot_at rows v u = slice_index_or (slice_index_or (map (λ (r : ReceiverRow). r.items) rows) v []) u None
@@ -40,7 +40,7 @@ slot_at rows v u = slice_index_or (slice_index_or (map (λ (r : ReceiverRow). r.
 pub record IsReceivers (windows : List ℕ) (rows : List ReceiverRow) : Type 0 where
   pub table : IsTable (length windows) (holdings_of rows)
   pub lets_some : (v : ℕ) → 0 < window_at windows v
-  pub answering : (v u : ℕ) → IsAnswering (window_at windows v) (slot_at rows v u)
+  pub answering : (v u : ℕ) → AnswersWithWindow (window_at windows v) (slot_at rows v u)
 
 -- a receiver that answers with this window
 abbrev pub answering : ℕ → Holding → Receiving

@@ -19,7 +19,7 @@ use Rattle.j39_audit.specs.declared.announcements.Announcement.{Announcement}
 use Rattle.j39_audit.specs.declared.audit_log.AuditLog.{AuditLog}
 use Rattle.j39_audit.specs.declared.pauses.Ending.{Ending}
 use Rattle.j39_audit.specs.declared.tally.Sighting.{Sighting}
-use Rattle.j39_audit.specs.inside.Auditing.{FollowsFrame, RecallsTimes, times_behind}
+use Rattle.j39_audit.specs.inside.Auditing.{FollowsNewFrame, RecallsTimes, times_behind}
 use Rattle.j39_audit.specs.inside.Recalling.{AreCounted, KnowsClaims, Notes, settings_of}
 use Rattle.j39_audit.proofs.Counted.{counted_on}
 use Rattle.j39_audit.proofs.Knowing.{known_knowledge}
@@ -74,7 +74,7 @@ returns-clause-frame c = λ past named accords number.
     }) sights unclear in
     let are = subst (λ (p : AuditPast). RecallsTimes s c.take_times.new.self p)
     (λ i. times (same_known i) (known_behind i) (gap i) (anew i) (ending i) (c.announcement_in-announced.ensures i) (number i)) took_times in
-    subst (λ (log : AuditLog). FollowsFrame log past time named f) (sym c.take_times.ensures.kept)
+    subst (λ (log : AuditLog). FollowsNewFrame log past time named f) (sym c.take_times.ensures.kept)
     (record {
       packet = packet;
       packet_is = packet_of f packet c.transport_packet-packet.ensures.found c.transport_packet-packet.ensures.none;

@@ -4,7 +4,7 @@ use Rattle.j39_tp.specs.Receiver.{hears, receives}
 use Rattle.j39_tp.specs.declared.receiving.manner.Manner.TheVariants.{Answering}
 use Rattle.j39_world.specs.Flows.{window_at}
 use Rattle.j39_bus.specs.BusState.{ReceiverTable}
-use Rattle.j39_bus.specs.inside.Receivers.{IsAnswering, answering, left_of}
+use Rattle.j39_bus.specs.inside.Receivers.{AnswersWithWindow, answering, left_of}
 use Rattle.j39_bus.proofs.ReceiverRows.{answers_here, holding_is, holdings_after, in_u, receivers_after, table_same, window_is}
 use Rattle.j39_bus.proofs.receivers.Receivers.hear.Goals as goal
 
@@ -20,7 +20,7 @@ hear_in-requires-clause-answering c =
     c.requires.to c.requires.from c.index_mut-row.result.now c.index_mut-row.ensures.value c.index_mut-slot.result.now c.index_mut-slot.ensures.value in
     let window = window_is c.self.inside.windows.items c.self.inside.rows.items c.args.self.now c.self.view_is c.self.invariant c.args.to c.args.from
     c.requires.to c.requires.from c.index-window.result.now c.index-window.ensures in
-    subst (λ k. IsAnswering k c.index_mut-slot.result.now) (sym window) answers
+    subst (λ k. AnswersWithWindow k c.index_mut-slot.result.now) (sym window) answers
 
 pub invariant_of-self : goal.invariant_of-self
 invariant_of-self c =
@@ -28,7 +28,7 @@ invariant_of-self c =
     c.requires.to c.requires.from c.index-window.result.now c.index-window.ensures in
     receivers_after c.self.inside.windows.items c.self.inside.rows.items c.args.self.now c.self.view_is c.self.invariant c.args.to c.args.from
     c.requires.to c.requires.from c.index_mut-row.result.now c.index_mut-row.ensures.value c.index_mut-slot.result.now c.index_mut-slot.ensures.value
-    c.hear_in.new.slot (subst (λ k. IsAnswering k c.hear_in.new.slot) window c.hear_in.ensures.answering)
+    c.hear_in.new.slot (subst (λ k. AnswersWithWindow k c.hear_in.new.slot) window c.hear_in.ensures.answering)
 
 pub returns-clause-heard : goal.returns-clause-heard
 returns-clause-heard c =
