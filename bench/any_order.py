@@ -7,9 +7,10 @@ their data alone, of which any may go first. It is played on a bus of its own, b
 definitions: arbitration bit for bit comes down to the smallest identifier, and such a unit offers what came first, what came last, what is
 least urgent, or any frame. Four plans of ten have multi-packet broadcasts, seldom wanted and with gaps of 10 ms: each unit has one under way
 as the others come, and one of each flow waits. In half of the plans clocks differ (`drift`): the bus and each unit have one of their own, mostly as
-fast or as slow as it may be. A third of them are live: all units claim, and one request for claims comes. What is queued keeps the premises of
-the times (docs/guide/TIMING.md), mostly all at once. ANSWERS is a file with what `load` writes of each plan behind a line `== NAME`; else
-the program of the environment's J39PLAN, or ./j39plan, is asked. The status is 1 where a frame is later than told.
+fast or as slow as it may be. A third of them are live: all units claim, and one request for claims comes. Some flows answer requests of one to
+three units, each answer at most 250 ms behind its request, and mostly as many at once as may be. What is queued keeps the premises of the times
+(docs/guide/TIMING.md), mostly all at once. ANSWERS is a file with what `load` writes of each plan behind a line `== NAME`; else the program of
+the environment's J39PLAN, or ./j39plan, is asked. The status is 1 where a frame is later than told.
 """
 from __future__ import annotations
 
@@ -26,6 +27,8 @@ from typing import Iterator, NamedTuple
 BITS_PER_MS, US_PER_BIT, LONGEST, RUNS, SPAN, LONG_SPAN, GAP_MS = 250, 4, 160, 60, 60 * 250, 200 * 250, 10
 # A request for claims has three bytes, and no unit of the plan sends it.
 REQUEST_BITS, TESTER = 110, 254
+# Within so many milliseconds a unit answers a request.
+ANSWERED_MS = 250
 
 
 class Flow(NamedTuple):
@@ -39,6 +42,7 @@ class Flow(NamedTuple):
     period: int
     jitter: int
     is_twin: bool
+    is_answer: bool = False
 
     def is_broadcast(self) -> bool:
         """Whether its messages are multi-packet ones to all."""
@@ -49,6 +53,14 @@ class Flow(NamedTuple):
         return -(-self.length // 7)
 
 
+class Request(NamedTuple):
+    """A planned request: the number of the flow that answers, the unit that asks, whether it asks all, and its period."""
+    flow: int
+    sender: int
+    is_to_all: bool
+    period: int
+
+
 class Network(NamedTuple):
     """A plan, as the bus needs it."""
     addresses: list[int]
@@ -57,6 +69,7 @@ class Network(NamedTuple):
     unplanned: int
     drift: int = 0
     is_live: bool = False
+    requests: tuple[Request, ...] = ()
 
 
 class Clocks(NamedTuple):
@@ -153,7 +166,22 @@ class Sender:
 def network(chance: random.Random) -> Network:
     """Units of which one at least keeps no order, or most broadcast, and what they send."""
     net = broadcasting(chance) if chance.random() < 0.4 else without_order(chance)
-    return net._replace(drift=chance.choice([0, 0, 0, 50, 500, 5000, 20000]), is_live=chance.random() < 0.3)
+    net = net._replace(drift=chance.choice([0, 0, 0, 50, 500, 5000, 20000]), is_live=chance.random() < 0.3)
+    return with_answers(net, chance) if chance.random() < 0.4 else net
+
+
+def with_answers(net: Network, chance: random.Random) -> Network:
+    """One to three flows more that answer one to three requests each: no more often in all than once a period, by each clock."""
+    flows, requests, units = [*net.flows], list[Request](), range(len(net.addresses))
+    for _ in range(chance.randint(1, 3)):
+        number, sender, period = len(flows) + 1, chance.choice(units), chance.choice([20, 50, 100, 100, 200, 300])
+        length, priority = chance.choice([8, 8, 5]), chance.choice([3, 6, 6, 7])
+        flows.append(Flow(number, sender, None, priority, 0xFE00 + number, length, period, 0, False, True))
+        others = [unit for unit in units if unit != sender]
+        askers = chance.sample(others, chance.randint(1, min(3, len(others))))
+        least = ceil(Fraction(len(askers) * period * (10**6 + net.drift), 10**6 - net.drift))
+        requests += [Request(number, asker, chance.random() < 0.3, least + chance.choice([0, 0, 1, 7])) for asker in askers]
+    return net._replace(flows=flows, requests=tuple(requests))
 
 
 def broadcasting(chance: random.Random) -> Network:
@@ -209,6 +237,10 @@ def plan_text(net: Network) -> Iterator[str]:
     for flow in net.flows:
         to = "all" if flow.receiver is None else f"U{flow.receiver}"
         yield f'[[flow]]\ngroup = "G{flow.number}"\nfrom = "U{flow.sender}"\nto = "{to}"\nperiod = {flow.period}\njitter = {flow.jitter}\n'
+        yield "on_request = true\n" if flow.is_answer else ""
+    for request in net.requests:
+        to = "all" if request.is_to_all else f"U{net.flows[request.flow - 1].sender}"
+        yield f'[[request]]\ngroup = "G{request.flow}"\nfrom = "U{request.sender}"\nto = "{to}"\nperiod = {request.period}\n'
 
 
 def identifier(priority: int, pgn: int, destination: int, source: int) -> int:
@@ -229,6 +261,25 @@ def message(net: Network, flow: Flow, moment: int, queued: int, chance: random.R
         yield Frame(queued + chance.randrange(2), moment, LONGEST, identifier(7, pgn, *ends), unit, flow)
 
 
+def asked(net: Network, at: Clocks, start: int, span: int, chance: random.Random) -> Iterator[Frame]:
+    """Planned requests and what answers them: mostly all that may be answered as the run begins."""
+    for request in net.requests:
+        flow = net.flows[request.flow - 1]
+        to = 255 if request.is_to_all else net.addresses[flow.sender]
+        number = identifier(6, 59904, to, net.addresses[request.sender])
+        period, longest = at.bits(request.sender, request.period), at.bits(flow.sender, ANSWERED_MS)
+        moment = Fraction(start - chance.choice([0, 1, int(longest), int(longest) - 1, chance.randrange(int(longest) + 1)]))
+        moment -= period * (moment // period)
+        while moment < span:
+            queued = ceil(moment)
+            yield Frame(queued, queued, REQUEST_BITS, number, request.sender, None)
+            last = queued + int(longest)
+            answer = start if queued <= start <= last and chance.random() < 0.9 else chance.choice([queued, last, last, chance.randint(queued, last)])
+            if answer < span:
+                yield from message(net, flow, answer, answer, chance)
+            moment += period
+
+
 def not_planned(net: Network, start: int, at_once: bool, chance: random.Random) -> Iterator[Frame]:
     """The frames that aren't planned: on a live bus a claim of each unit and a request for claims are among them, or more than these."""
     def queued() -> int:
@@ -247,8 +298,8 @@ def not_planned(net: Network, start: int, at_once: bool, chance: random.Random) 
 def queued_frames(net: Network, at: Clocks, start: int, chance: random.Random) -> list[Frame]:
     """What the units queue in a run but for broadcasts: mostly all at once, and some of them a little before."""
     at_once, spread = chance.random() < 0.6, chance.choice([2, 2, 3, 200, 500, 1500, 2500])
-    flows = [flow for flow in net.flows if not flow.is_broadcast()]
-    first, span = chance.choice(flows) if chance.random() < 0.7 else None, SPAN if flows == net.flows else LONG_SPAN
+    flows = [flow for flow in net.flows if not flow.is_broadcast() and not flow.is_answer]
+    first, span = chance.choice(flows) if flows and chance.random() < 0.7 else None, LONG_SPAN if any(flow.is_broadcast() for flow in net.flows) else SPAN
     frames: list[Frame] = []
     for flow in flows:
         period, jitter = at.bits(flow.sender, flow.period), at.bits(flow.sender, flow.jitter)
@@ -260,6 +311,7 @@ def queued_frames(net: Network, at: Clocks, start: int, chance: random.Random) -
             frames += message(net, flow, ceil(moment - held), ceil(moment + late), chance)
             moment += period + (chance.randrange(int(period) // 4 + 1) if chance.random() < 0.2 else 0)
             late = Fraction(chance.randrange(int(jitter) + 1) if chance.random() < 0.3 else 0)
+    frames += asked(net, at, start, span, chance)
     frames += not_planned(net, start, at_once, chance)
     return sorted(frames, key=lambda frame: frame.queued)
 
