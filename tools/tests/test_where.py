@@ -103,7 +103,7 @@ class Where(WhereAnswers):
         plan = ('version = 4\n[timing]\nbitrate = 250000\nunplanned = 0\n' + "".join(
             f'[[unit]]\nlabel = "{label}"\naddress = {number}\nname = {{ identity = {number} }}\n' for number, label in enumerate("ETVW", 1))
             + '[[group]]\nlabel = "G"\npgn = 65253\npriority = 6\nlength = 8\n'
-            '[[flow]]\ngroup = "G"\nfrom = "E"\nto = "all"\nperiod = 10\njitter = 1\non_request = true\n')
+            '[[flow]]\ngroup = "G"\nfrom = "E"\nto = "all"\nperiod = 1000\njitter = 1\non_request = true\n')
         place = len(plan.splitlines()) - 2
         asks = [f'[[request]]\ngroup = "G"\nfrom = "{label}"\nto = "E"\n' for label in "TVW"]
         found = f"{place}: F31 AskedTooOften 1  (G from E to all: key period: request 1 each "
@@ -116,7 +116,7 @@ class Where(WhereAnswers):
         ):
             self.assertEqual(self.answer(plan + text)[1][0], found + hint)
         at = place + 3
-        none = self.answer(f"{plan}{asks[0]}{asks[1]}period = 10\n")
+        none = self.answer(f"{plan}{asks[0]}{asks[1]}period = 1000\n")
         self.assertEqual(none, (0, [f"{at}: hint request 1 has no period: nothing is promised while it is sent", "ok 4 units 1 groups 1 flows"]))
         some = self.answer(f"{plan}{asks[0]}".replace("unplanned = 0", "unplanned = 1"))[1]
         self.assertEqual(some[0], f"{at}: hint request 1 has no period: it counts among the unplanned frames, and its answers as messages of the flow")
