@@ -355,8 +355,8 @@ class Times(InPlans):
     def test_too_often_asked(self) -> None:
         """The greatest period by which no more is asked; none where that isn't above the jitter."""
         plan = text_of(example("findings/f31_asked_too_often.toml"))
-        self.assertEqual(self.mends(plan), ["mend: flow 1 (HOURS from E to all): period = 9, it was 100"])
-        self.assertEqual(self.mends(plan.replace("on_request = true", "on_request = true\njitter = 9")), [])
+        self.assertEqual(self.mends(plan), ["mend: flow 1 (HOURS from E to all): period = 90, it was 1000"])
+        self.assertEqual(self.mends(plan.replace("on_request = true", "on_request = true\njitter = 90")), [])
 
     def test_a_flow_with_its_times(self) -> None:
         """A need of data of at most 300 ms: a flow each 100 ms whose pause leaves room for its 1,280 us."""

@@ -92,8 +92,8 @@ class Where(WhereAnswers):
             ("f11_flow_repeated", "37: F11 FlowRepeated 1 3  (EEC1 from ENGINE to all: the same as at line 27)"),
             ("f16_no_period", "31: F16 NoPeriod 2  (ET1 from ENGINE to all: key period: "),
             ("f18_late_flow", "36: F18 LateFlow 2  (ET1 from ENGINE to all: key deadline: within 2 ms there isn't room"),
-            ("f31_asked_too_often", "33: F31 AskedTooOften 1  (HOURS from E to all: key period: request 1 each 100 ms, request 2 each 10 ms: together they "
-             "come each 9.09 ms; 9 is the greatest period without this)"),
+            ("f31_asked_too_often", "33: F31 AskedTooOften 1  (HOURS from E to all: key period: request 1 each 1000 ms, request 2 each 100 ms: together they "
+             "come each 90.9 ms; 90 is the greatest period without this)"),
         ):
             plan = example(f"findings/{name}.toml")
             self.assertTrue(run("where.py", plan)[1].startswith(f"{plan}:{found}"), name)
