@@ -57,7 +57,7 @@ PAIRS = (
     in_load("a long message to one unit has no receiver", "loads::flow_loads::packet_frames", KEPT, (
         Turn("specs/Loads.antt", "any_receiver = any_unit units v;", "any_receiver = None;"),
         Turn("proofs/Sending.antt", "placed w (two_ends units flow.sender v w is);", "placed w (one_end units flow.sender w is);"),
-        Turn("proofs/Sending.antt", "(λ flow v pace packets. two_none flow.sender v)", "(λ flow v pace packets. one_none flow.sender)"),
+        Turn("proofs/Sending.antt", "(λ flow v pace packets askers. two_none flow.sender v)", "(λ flow v pace packets askers. one_none flow.sender)"),
         Turn("src/loads/flow_loads.rt", "any_receiver: any_unit(bus, unit),", "any_receiver: None,"),
     )),
     in_load("the last identifier of a long message leaves out its answers", "frames::identifiers::session_ident", KEPT, (
@@ -117,8 +117,8 @@ PAIRS = (
         Turn("src/waits/demands.rt", "BroadcastPart::Packets => u16::from(broadcast.packets),", "BroadcastPart::Packets => 2,"),
     )),
     in_load("what is wanted has no jitter", "waits::demands::want_of", KEPT, (
-        Turn("specs/Demands.antt", "  jitter = broadcast.jitter;", "  jitter = 0;"),
-        Turn("src/waits/demands.rt", "        jitter: broadcast.jitter,", "        jitter: 0,"),
+        Turn("specs/Demands.antt", "  jitter = broadcast.late;", "  jitter = 0;"),
+        Turn("src/waits/demands.rt", "        jitter: broadcast.late,", "        jitter: 0,"),
     )),
     in_load("announcements want nothing", "waits::demands::want_of", KEPT, (
         Turn("specs/Demands.antt", "frames_of_part Announcements broadcast = 1", "frames_of_part Announcements broadcast = 0"),

@@ -108,25 +108,22 @@ numbers_decide (Some a) (Some b) = (λ e. (refl, refl), λ h. refl)
         Turn("proofs/Deciding.antt", "(value_decides (λ (w : UnitPlan). w.queue ≡ Any)", "(value_decides (λ (w : UnitPlan). w.queue ≡ Priority)"),
     )),
     in_times("answers may come of what nobody asks for", ("ends::is_more_often", EXACT_TIMES), ROOM, (
-        Turn("specs/TimeFindings.antt", " ends.output ⊎ ((ends.output.on_request ≡ true) × (ends.input.on_request ≡ false)))", " ends.output)"),
+        Turn("specs/TimeFindings.antt", "(IsNearer (shortest_on buses a) i (shortest_on buses b) f ⊎ ((f.on_request ≡ true) × (i.on_request ≡ false)))",
+             "(IsNearer (shortest_on buses a) i (shortest_on buses b) f)"),
         Turn("specs/FoundTimes.antt", "is_more_often here i there f = is_nearer here i there f || (f.on_request && not i.on_request)",
              "is_more_often here i there f = is_nearer here i there f"),
         Turn("src/ends.rt", "    is_nearer(here, input, there, output) || output.on_request && !input.on_request", "    is_nearer(here, input, there, output)"),
-        Turn("proofs/DecidingTimes.antt", """ ends.output
-    ⊎ ((ends.output.on_request ≡ true) × (ends.input.on_request ≡ false)))
-    (λ ends. Decides-or _ _ (nearer_decides (shortest_on v.buses.items ends.at.bus) ends.input (shortest_on v.buses.items n.output.bus) ends.output)
+        Turn("proofs/DecidingTimes.antt", """    (λ ends. Decides-or _ _ (Decides-or _ _
+    (nearer_decides (shortest_on v.buses.items ends.at.bus) ends.input (shortest_on v.buses.items n.output.bus) ends.output)
     (Decides-and _ _ (it_is ends.output.on_request) (not_is ends.input.on_request)))
-""", """ ends.output)
-    (λ ends. nearer_decides (shortest_on v.buses.items ends.at.bus) ends.input (shortest_on v.buses.items n.output.bus) ends.output)
+""", """    (λ ends. Decides-or _ _
+    (nearer_decides (shortest_on v.buses.items ends.at.bus) ends.input (shortest_on v.buses.items n.output.bus) ends.output)
 """),
     )),
-    in_times("periods are compared by one bus's clocks", ("ends::is_too_often", EXACT_TIMES), "sound_vehicles_keep_ages", (
-        Turn("specs/TimeFindings.antt", "    IsNearer (shortest_on v.buses.items ends.at.bus) ends.input", "    IsNearer (shortest_on v.buses.items n.output.bus) ends.input"),
-        Turn("specs/FoundTimes.antt", "    is_more_often (shortest_on v.buses.items ends.at.bus) ends.input",
-             "    is_more_often (shortest_on v.buses.items n.output.bus) ends.input"),
-        Turn("src/ends.rt", "    let here = shortest_on(&vehicle.buses, ends.at.bus);", "    let here = shortest_on(&vehicle.buses, forward.output.bus);"),
-        Turn("proofs/DecidingTimes.antt", "(λ ends. IsNearer (shortest_on v.buses.items ends.at.bus) ends.input",
-             "(λ ends. IsNearer (shortest_on v.buses.items n.output.bus) ends.input"),
+    in_times("periods are compared by one bus's clocks", ("ends::comes_too_often", EXACT_TIMES), "sound_vehicles_keep_ages", (
+        Turn("specs/TimeFindings.antt", "(IsNearer (shortest_on buses a) i", "(IsNearer (shortest_on buses b) i"),
+        Turn("specs/FoundTimes.antt", "    is_more_often (shortest_on buses a) i", "    is_more_often (shortest_on buses b) i"),
+        Turn("src/ends.rt", "    let here = shortest_on(buses, ends.at.bus);", "    let here = shortest_on(buses, there);"),
         Turn("proofs/DecidingTimes.antt", "(nearer_decides (shortest_on v.buses.items ends.at.bus) ends.input",
              "(nearer_decides (shortest_on v.buses.items n.output.bus) ends.input"),
     )),
