@@ -37,7 +37,7 @@ use Rattle.j39_timing.proofs.Buffering.{ordered_behind, ordered_in_time, own_ord
 use Rattle.j39_timing.proofs.Sums.{total-le}
 use Rattle.j39_load.proofs.QueueGroupFrames.{begun, found, least_within, positive, read, unordered_of, wait_of_queue_group}
 
-module _ (timing : Timing) (asked : List (Option FlowFrames)) (paced : All HasPeriod (asked ++ damage_frames timing))
+module _ (timing : Timing) (ends : ℕ) (asked : List (Option FlowFrames)) (paced : All HasPeriod (asked ++ damage_frames timing))
     (sent : All (λ (f : Option FlowFrames). IfSome f IsSent) asked) where
   abbrev all : List (Option FlowFrames)
   all = asked ++ damage_frames timing
@@ -133,7 +133,7 @@ module _ (timing : Timing) (asked : List (Option FlowFrames)) (paced : All HasPe
 
   -- ---- frames of units that keep order
 
-  module _ (buffering : Buffering) (buffering_delays : IsBuffering timing asked buffering) (i : ℕ) (frames : FlowFrames) (at : get_or asked i None ≡ Some frames)
+  module _ (buffering : Buffering) (buffering_delays : IsBuffering timing ends asked buffering) (i : ℕ) (frames : FlowFrames) (at : get_or asked i None ≡ Some frames)
       (ordered : keep_order frames ≡ true) (bounded : may_be_passed buffering frames.greatest_ident ≡ false) (wait : ℕ)
       (enough : need_of timing buffering.frames i frames wait ≤ wait) where
     pub placed : planned_at all i ≡ frames
@@ -214,7 +214,7 @@ module _ (timing : Timing) (asked : List (Option FlowFrames)) (paced : All HasPe
             absurd (false≢true (sym bounded ∙ passed))
 
     module _ (s : Schedule) (controllers : Controllers) (planned : ℕ → Bool) (of : Origins) (legal : IsLegalInAnyOrder s controllers)
-        (known : AreFramesInAnyOrder timing asked s controllers planned of i) where
+        (known : AreFramesInAnyOrder timing ends asked s controllers planned of i) where
       pub own_ordered : IsOrderedStream s controllers planned of i
       own_ordered p in_p is source = elim (cases_Bool (controllers.keeps_order (controllers.unit p))) [
         | inl keeps ↦ keeps
@@ -262,16 +262,16 @@ module _ (timing : Timing) (asked : List (Option FlowFrames)) (paced : All HasPe
           subst (λ (f : FlowFrames). f.least_ident < (planned_at asked i).greatest_ident) (sym here)
           (subst (λ (f : FlowFrames). x.least_ident < f.greatest_ident) (sym (read asked i frames at)) less) in
           let (w, stated) = known_wait (of.source p) x found_at less in
-          let is_wait = wait_of_queue_group timing asked paced sent buffering.waits buffering_delays.bounded (of.source p) x found_at kept w stated in
+          let is_wait = wait_of_queue_group timing ends asked paced sent buffering.waits buffering_delays.bounded (of.source p) x found_at kept w stated in
           let held : buffered_for buffering.waits (of.source p) ≡ w = ap (λ (o : Option ℕ). unwrap_or o 0) stated in
-          let by_wait = begun timing asked paced sent s controllers planned of legal i known (of.source p) x found_at kept (inr before) w is_wait p in_p is refl
+          let by_wait = begun timing ends asked paced sent s controllers planned of legal i known (of.source p) x found_at kept (inr before) w is_wait p in_p is refl
           (omega (arith, seen, held)) in
           omega (arith, by_wait, held)
 
       pub ordered_bound : IsSingle frames.stream → delay_of frames.stream wait ≤ frames.stream.period → IsStreamInTime s planned of i frames.stream wait
       ordered_bound single fits =
           subst (λ (own : FlowFrames). IsStreamInTime s planned of i own.stream wait) placed
-          (ordered_in_time s controllers legal (traffic_of all) (others_of timing) (longest_frame 8) planned of i wait known.known (positive timing asked paced sent) own_ordered
+          (ordered_in_time s controllers legal (traffic_of all) (others_of timing) (longest_frame 8) planned of i wait known.known (positive timing ends asked paced sent) own_ordered
           (buffered_for buffering.waits) have (demand_fits single.1) (subst (λ (own : FlowFrames). IsSingle own.stream) (sym placed) single)
           (subst (λ (own : FlowFrames). delay_of own.stream wait ≤ own.stream.period) (sym placed) fits))
 
@@ -280,13 +280,13 @@ module _ (timing : Timing) (asked : List (Option FlowFrames)) (paced : All HasPe
       asked_bound asks small =
           subst (λ (own : FlowFrames). IsStreamInTime s planned of i own.stream wait) placed
           (own_ordered_in_time s controllers legal (traffic_of all) (others_of timing) (longest_frame 8) planned of i wait known.known
-          (positive timing asked paced sent) own_ordered (buffered_for buffering.waits) have
+          (positive timing ends asked paced sent) own_ordered (buffered_for buffering.waits) have
           (subst (λ (own : FlowFrames). own.stream.bits ≤ longest_frame 8) (sym placed) small) (own_fits asks))
 
       pub ordered_sent : IsSpaced frames.stream → frames.twin_ident ≡ None → AreQueuedBehind s planned of i → AreSteady s planned of i → AreSentWithin s planned of i frames.stream wait
       ordered_sent spaced single after steady =
           subst (λ (own : FlowFrames). AreSentWithin s planned of i own.stream wait) placed
-          (ordered_behind s controllers legal (traffic_of all) (others_of timing) (longest_frame 8) planned of i wait known.known (positive timing asked paced sent) own_ordered
+          (ordered_behind s controllers legal (traffic_of all) (others_of timing) (longest_frame 8) planned of i wait known.known (positive timing ends asked paced sent) own_ordered
           (buffered_for buffering.waits) have (demand_fits spaced) alone after steady)
         where
           alone : (j : ℕ) → (traffic_of all).are_twins i j ≡ false

@@ -53,19 +53,19 @@ legal_in_order s legal = record {
   in_order = λ p q in_p in_q seen waits. (p, (in_p, refl, (omega (arith, waits.0), waits.1), λ is. refl), legal.in_order p q in_p in_q seen waits);
 }
 
-pub known_in_order : (timing : Timing) (all : List (Option FlowFrames)) → AreAllOrdered all → (s : Schedule) (planned : ℕ → Bool) (of : Origins) (i : ℕ)
-    → AreFramesOfPlan timing all s planned of i → AreFramesInAnyOrder timing all s all_in_order planned of i
-known_in_order timing all ordered s planned of i known = record {
+pub known_in_order : (timing : Timing) (ends : ℕ) (all : List (Option FlowFrames)) → AreAllOrdered all → (s : Schedule) (planned : ℕ → Bool) (of : Origins) (i : ℕ)
+    → AreFramesOfPlan timing all s planned of i → AreFramesInAnyOrder timing ends all s all_in_order planned of i
+known_in_order timing ends all ordered s planned of i known = record {
   known = known;
   of_unit = λ p in_p is un. absurd (true≢false un);
   to_last = λ p in_p is un. absurd (true≢false (sym (ordered (of.source p)) ∙ un));
   queue_groups = λ j level goes un is_level. absurd (true≢false (sym (ordered j) ∙ un));
 }
 
-pub in_order : (timing : Timing) (all : List (Option FlowFrames)) → AreAllOrdered all → (i : ℕ) (frames : FlowFrames) (wait : ℕ)
-    → IsInTimeInAnyOrder timing all i frames wait → IsInTimeOnEveryBus timing all i frames wait
-in_order timing all ordered i frames wait bounds s planned of legal known =
-    bounds s all_in_order planned of (legal_in_order s legal) (known_in_order timing all ordered s planned of i known)
+pub in_order : (timing : Timing) (ends : ℕ) (all : List (Option FlowFrames)) → AreAllOrdered all → (i : ℕ) (frames : FlowFrames) (wait : ℕ)
+    → IsInTimeInAnyOrder timing ends all i frames wait → IsInTimeOnEveryBus timing all i frames wait
+in_order timing ends all ordered i frames wait bounds s planned of legal known =
+    bounds s all_in_order planned of (legal_in_order s legal) (known_in_order timing ends all ordered s planned of i known)
 
 -- ---- bounds
 
@@ -118,35 +118,35 @@ judged_beyond frames limit time bits stated = go (leb time limit) refl stated
     go true fits stated = absurd (within_beyond time bits (sym stated))
     go false fits stated = later (leb time frames.stream.period) refl (leb-false time limit fits) stated
 
-module _ (timing : Timing) (asked : List (Option FlowFrames)) (paced : All HasPeriod (asked ++ damage_frames timing))
-    (sent : All (λ (f : Option FlowFrames). IfSome f IsSent) asked) (buffering : Buffering) (is : IsBuffering timing asked buffering) (flow : ℕ) (frames : FlowFrames)
+module _ (timing : Timing) (ends : ℕ) (asked : List (Option FlowFrames)) (paced : All HasPeriod (asked ++ damage_frames timing))
+    (sent : All (λ (f : Option FlowFrames). IfSome f IsSent) asked) (buffering : Buffering) (is : IsBuffering timing ends asked buffering) (flow : ℕ) (frames : FlowFrames)
     (at : get_or asked flow None ≡ Some frames) (limit bits : ℕ) where
   its_sent : IsSent frames
   its_sent = subst (λ (o : Option FlowFrames). IfSome o IsSent) at (sent flow None (get_or_inside asked flow frames at))
 
   abbrev Bound : Type 0
-  Bound = (wait : ℕ) × (bits ≡ delay_of frames.stream wait) × (bits ≤ limit) × IsInTimeInAnyOrder timing asked flow frames wait
+  Bound = (wait : ℕ) × (bits ≡ delay_of frames.stream wait) × (bits ≤ limit) × IsInTimeInAnyOrder timing ends asked flow frames wait
 
   abbrev BoundBeyond : Type 0
   BoundBeyond = (wait : ℕ) × (bits ≡ delay_of frames.stream wait) × (limit < bits) × (bits ≤ frames.stream.period)
-      × IsInTimeInAnyOrder timing asked flow frames wait
+      × IsInTimeInAnyOrder timing ends asked flow frames wait
 
   -- whether others ask for them or not
   by_askers : keep_order frames ≡ true → may_be_passed buffering frames.greatest_ident ≡ false → (wait : ℕ)
       → need_of timing buffering.frames flow frames wait ≤ wait → (s : Schedule) (controllers : Controllers) (planned : ℕ → Bool) (of : Origins)
-      → IsLegalInAnyOrder s controllers → AreFramesInAnyOrder timing asked s controllers planned of flow → frames.stream.frames ≡ 1
+      → IsLegalInAnyOrder s controllers → AreFramesInAnyOrder timing ends asked s controllers planned of flow → frames.stream.frames ≡ 1
       → delay_of frames.stream wait ≤ frames.stream.period → (askers : Option Want) → askers_want frames.stream ≡ askers
       → IsStreamInTime s planned of flow frames.stream wait
   by_askers ordered passed wait fits s controllers planned of legal known single within None none =
-      ordered_bound timing asked paced sent buffering is flow frames at ordered passed wait fits s controllers planned of legal known (single, none) within
+      ordered_bound timing ends asked paced sent buffering is flow frames at ordered passed wait fits s controllers planned of legal known (single, none) within
   by_askers ordered passed wait fits s controllers planned of legal known single within (Some want) some =
-      asked_bound timing asked paced sent buffering is flow frames at ordered passed wait fits s controllers planned of legal known
+      asked_bound timing ends asked paced sent buffering is flow frames at ordered passed wait fits s controllers planned of legal known
       (ap (λ (o : Option Want). is_some o) some) (its_sent.short)
 
   -- of a unit that keeps order, of a delay within some bits that are no more than the period
   by_delay : keep_order frames ≡ true → may_be_passed buffering frames.greatest_ident ≡ false → (most : ℕ)
       → IsDelayWithin timing buffering.frames flow frames most bits → frames.stream.frames ≡ 1 → most ≤ frames.stream.period
-      → (wait : ℕ) × (bits ≡ delay_of frames.stream wait) × (bits ≤ most) × IsInTimeInAnyOrder timing asked flow frames wait
+      → (wait : ℕ) × (bits ≡ delay_of frames.stream wait) × (bits ≤ most) × IsInTimeInAnyOrder timing ends asked flow frames wait
   by_delay ordered passed most (wait, inside, least, sum) single limited =
       let within = inside.within in (
         wait,
@@ -177,10 +177,10 @@ module _ (timing : Timing) (asked : List (Option FlowFrames)) (paced : All HasPe
       (wait, sum, above, inside, bounds)
 
   -- of one that keeps none
-  by_wait : keep_order frames ≡ false → (w : ℕ) → get_or buffering.waits flow None ≡ Some w → IsInTimeInAnyOrder timing asked flow frames w
+  by_wait : keep_order frames ≡ false → (w : ℕ) → get_or buffering.waits flow None ≡ Some w → IsInTimeInAnyOrder timing ends asked flow frames w
   by_wait kept w known_wait s controllers planned of legal known =
-      any_in_time timing asked paced sent s controllers planned of legal flow known flow frames at kept (inl refl) w
-      (wait_of_queue_group timing asked paced sent buffering.waits is.bounded flow frames at kept w known_wait)
+      any_in_time timing ends asked paced sent s controllers planned of legal flow known flow frames at kept (inl refl) w
+      (wait_of_queue_group timing ends asked paced sent buffering.waits is.bounded flow frames at kept w known_wait)
 
   unordered_frames : keep_order frames ≡ false → (wait : Option ℕ) → get_or buffering.waits flow None ≡ wait → Within bits ≡ any_delay frames limit wait → Bound
   unordered_frames kept None known_wait stated = absurd (within_late bits stated)
@@ -264,10 +264,10 @@ never_long timing buffering flow frames limit count =
     never_stated timing buffering flow frames limit (Long count) (long_within count) (long_beyond count) (long_late count) (λ short. short)
 
 -- frames of a unit's broadcasts, for which a wait is reported
-module _ (timing : Timing) (asked : List (Option FlowFrames)) (paced : All HasPeriod (asked ++ damage_frames timing))
-    (sent : All (λ (f : Option FlowFrames). IfSome f IsSent) asked) (buffering : Buffering) (is : IsBuffering timing asked buffering) (place : ℕ) (frames : FlowFrames)
+module _ (timing : Timing) (ends : ℕ) (asked : List (Option FlowFrames)) (paced : All HasPeriod (asked ++ damage_frames timing))
+    (sent : All (λ (f : Option FlowFrames). IfSome f IsSent) asked) (buffering : Buffering) (is : IsBuffering timing ends asked buffering) (place : ℕ) (frames : FlowFrames)
     (at : get_or asked place None ≡ Some frames) (wait : ℕ) (s : Schedule) (controllers : Controllers) (planned : ℕ → Bool) (of : Origins)
-    (legal : IsLegalInAnyOrder s controllers) (turn : ComeInAnyOrder timing asked s controllers planned of place) (single : (frames.twin_ident ≡ None) × IsSpaced frames.stream) where
+    (legal : IsLegalInAnyOrder s controllers) (turn : ComeInAnyOrder timing ends asked s controllers planned of place) (single : (frames.twin_ident ≡ None) × IsSpaced frames.stream) where
   here : planned_at asked place ≡ frames
   here = ap (λ (o : Option FlowFrames). unwrap_or o no_frames) at
 
@@ -276,13 +276,13 @@ module _ (timing : Timing) (asked : List (Option FlowFrames)) (paced : All HasPe
   ordered_turn ordered true passed stated = absurd (none-some wait (sym stated))
   ordered_turn ordered false passed stated =
       let keeps : keep_order (planned_at asked place) ≡ true = subst (λ (f : FlowFrames). keep_order f ≡ true) (sym here) ordered in
-      ordered_sent timing asked paced sent buffering is place frames at ordered passed wait stated.1 s controllers planned of legal turn.known single.1 single.0
+      ordered_sent timing ends asked paced sent buffering is place frames at ordered passed wait stated.1 s controllers planned of legal turn.known single.1 single.0
       (turn.behind keeps) (turn.steady keeps)
 
   unordered_turn : keep_order frames ≡ false → Some wait ≡ get_or buffering.waits place None → AreSentWithin s planned of place frames.stream wait
   unordered_turn kept stated =
-      any_sent timing asked paced sent s controllers planned of legal place turn.known place frames at kept (inl refl) wait
-      (wait_of_queue_group timing asked paced sent buffering.waits is.bounded place frames at kept wait (sym stated))
+      any_sent timing ends asked paced sent s controllers planned of legal place turn.known place frames at kept (inl refl) wait
+      (wait_of_queue_group timing ends asked paced sent buffering.waits is.bounded place frames at kept wait (sym stated))
 
   pub sent_in_any_order : IsWaitIn timing buffering place frames (Some wait) → AreSentWithin s planned of place frames.stream wait
   sent_in_any_order stated = go (keep_order frames) refl stated
@@ -306,20 +306,20 @@ module _ (plan : Plan) (timing : Timing) (stays : UnitPlan → Bool) (delays : L
   -- what is reported of a flow by its messages
   pub stated_of : (flow : ℕ) (load : FlowLoad) (messages : Messages) (delay : Delay) → slice_get asked.flows flow ≡ Some (Some load)
       → load.messages ≡ messages → slice_get delays flow ≡ Some (Some delay)
-      → (buffering : Buffering) × IsBuffering timing (frames_asked asked) buffering × IsDelayOf timing asked buffering flow messages load.limit delay
+      → (buffering : Buffering) × IsBuffering timing asked.unplanned_end (frames_asked asked) buffering × IsDelayOf timing asked buffering flow messages load.limit delay
   stated_of flow load messages delay its is at =
       let (buffering, buffering_delays, has) = delay_at flow (Some delay) at in
       let same : has.0 ≡ load = same_Some _ _ (same_Some _ _ (sym has.1 ∙ its)) in
       let by_load : IsDelay timing asked buffering flow load delay = subst (λ (l : FlowLoad). IsDelay timing asked buffering flow l delay) same has.2 in
       (buffering, buffering_delays, subst (λ (m : Messages). IsDelayOf timing asked buffering flow m load.limit delay) is by_load)
 
-  of_short : (buffering : Buffering) → IsBuffering timing (frames_asked asked) buffering → (flow : ℕ) (load : FlowLoad) (frames : FlowFrames) (bits : ℕ)
+  of_short : (buffering : Buffering) → IsBuffering timing asked.unplanned_end (frames_asked asked) buffering → (flow : ℕ) (load : FlowLoad) (frames : FlowFrames) (bits : ℕ)
       → slice_get asked.flows flow ≡ Some (Some load)
       → load.messages ≡ Short frames → IsFrameDelay timing buffering flow frames load.limit (Within bits) → IsBounded timing asked flow bits
   of_short buffering buffering_delays flow load frames bits its short delayed =
       let known : ArePaced load.limit (Short frames) = subst (ArePaced load.limit) short (of_loads timing plan stays flow load its).messages in
       let at = own_read asked.flows asked.units asked.requests flow load frames its short in
-      let bound = frames_bounded timing (frames_asked asked) (all_paced timing plan stays) (all_sent timing plan stays) buffering buffering_delays flow frames at
+      let bound = frames_bounded timing asked.unplanned_end (frames_asked asked) (all_paced timing plan stays) (all_sent timing plan stays) buffering buffering_delays flow frames at
       load.limit bits delayed known.1 known.2 in
       record {
         load = load;
@@ -333,23 +333,23 @@ module _ (plan : Plan) (timing : Timing) (stays : UnitPlan → Bool) (delays : L
         is = buffering_delays;
         delayed = delayed;
         in_any_order = bound.3;
-        bounds = λ ordered. in_order timing (frames_asked asked) ordered flow frames bound.0 bound.3;
+        bounds = λ ordered. in_order timing asked.unplanned_end (frames_asked asked) ordered flow frames bound.0 bound.3;
       }
 
-  of_messages : (buffering : Buffering) → IsBuffering timing (frames_asked asked) buffering → (flow : ℕ) (load : FlowLoad) (messages : Messages) (bits : ℕ)
+  of_messages : (buffering : Buffering) → IsBuffering timing asked.unplanned_end (frames_asked asked) buffering → (flow : ℕ) (load : FlowLoad) (messages : Messages) (bits : ℕ)
       → slice_get asked.flows flow ≡ Some (Some load)
       → load.messages ≡ messages → IsDelayOf timing asked buffering flow messages load.limit (Within bits) → IsBounded timing asked flow bits
   of_messages buffering buffering_delays flow load (Short frames) bits its is stated = of_short buffering buffering_delays flow load frames bits its is stated
   of_messages buffering buffering_delays flow load (ToOne frames) bits its is stated = absurd stated
   of_messages buffering buffering_delays flow load (ToAll broadcast) bits its is stated = absurd stated
 
-  beyond_short : (buffering : Buffering) → IsBuffering timing (frames_asked asked) buffering → (flow : ℕ) (load : FlowLoad) (messages : Messages) (bits : ℕ)
+  beyond_short : (buffering : Buffering) → IsBuffering timing asked.unplanned_end (frames_asked asked) buffering → (flow : ℕ) (load : FlowLoad) (messages : Messages) (bits : ℕ)
       → slice_get asked.flows flow ≡ Some (Some load)
       → load.messages ≡ messages → IsDelayOf timing asked buffering flow messages load.limit (Beyond bits) → IsBoundedBeyond timing asked flow bits
   beyond_short buffering buffering_delays flow load (Short frames) bits its short delayed =
       let known : ArePaced load.limit (Short frames) = subst (ArePaced load.limit) short (of_loads timing plan stays flow load its).messages in
       let at = own_read asked.flows asked.units asked.requests flow load frames its short in
-      let bound = frames_beyond timing (frames_asked asked) (all_paced timing plan stays) (all_sent timing plan stays) buffering buffering_delays flow frames at
+      let bound = frames_beyond timing asked.unplanned_end (frames_asked asked) (all_paced timing plan stays) (all_sent timing plan stays) buffering buffering_delays flow frames at
       load.limit bits delayed known.1 in
       record {
         load = load;
@@ -361,7 +361,7 @@ module _ (plan : Plan) (timing : Timing) (stays : UnitPlan → Bool) (delays : L
         beyond = bound.2;
         inside = bound.3;
         in_any_order = bound.4;
-        bounds = λ ordered. in_order timing (frames_asked asked) ordered flow frames bound.0 bound.4;
+        bounds = λ ordered. in_order timing asked.unplanned_end (frames_asked asked) ordered flow frames bound.0 bound.4;
       }
   beyond_short buffering buffering_delays flow load (ToOne frames) bits its is stated = absurd stated
   beyond_short buffering buffering_delays flow load (ToAll broadcast) bits its is stated = absurd stated

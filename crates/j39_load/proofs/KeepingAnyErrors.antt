@@ -13,6 +13,7 @@ use Rattle.j39_load.specs.declared.frames.flow_frames.FlowFrames.{FlowFrames}
 use Rattle.j39_load.specs.AnyQueues.{are_of_unit, is_of_queue_group, keep_order, leasts_of, with_unplanned}
 use Rattle.j39_load.specs.KeepsErrors.{KeepsErrors, KeepsErrorsInAnyOrder}
 use Rattle.j39_load.specs.KeepsPlan.{IsSingleFlow, KeepsQueues, KeepsToPlan, origins_of, source_place}
+use Rattle.j39_load.specs.LiveClaims.{unplanned_end}
 use Rattle.j39_load.specs.PlannedFrames.{AreFramesInAnyOrder, KeepToQueueGroup, queue_group_of, no_frames, planned_at}
 use Rattle.j39_load.specs.SentFrames.{FrameSources, Held}
 use Rattle.j39_load.proofs.DamagedPlaces.{IsDamage, IsFrame, own_with, shift}
@@ -30,6 +31,9 @@ module _ (plan : Plan) (timing : Timing) (stays : UnitPlan → Bool) (states : D
   abbrev all : List (Option FlowFrames)
   all = asks plan timing stays states clean s d bus planned sent held keeps rate errors
 
+  abbrev ends : ℕ
+  ends = unplanned_end plan
+
   abbrev bus_with : Schedule
   bus_with = w plan timing stays states clean s d bus planned sent held keeps rate errors
 
@@ -37,7 +41,7 @@ module _ (plan : Plan) (timing : Timing) (stays : UnitPlan → Bool) (states : D
   is_foreseen = is_planned plan timing stays states clean s d bus planned sent held keeps rate errors
 
   -- without damage
-  before : AreFramesInAnyOrder timing all s controllers planned (origins_of plan sent) i
+  before : AreFramesInAnyOrder timing ends all s controllers planned (origins_of plan sent) i
   before = keeps_any plan timing stays states clean s bus.queued_first planned sent held keeps controllers queues i
       (keeps_premises plan timing stays states clean s bus.queued_first planned sent held keeps i single)
 
@@ -58,21 +62,22 @@ module _ (plan : Plan) (timing : Timing) (stays : UnitPlan → Bool) (states : D
   own_unit p past = ap (λ (b : Bool). cond b (controllers.unit p) more.own) (le-ltb p s.count past)
 
   -- queue groups are as they were
-  module _ (around : FlowFrames) (level : ℕ) (kept : KeepToQueueGroup timing s planned (origins_of plan sent) (queue_group_of timing all around level)) where
+  module _ (around : FlowFrames) (level : ℕ) (kept : KeepToQueueGroup timing ends s planned (origins_of plan sent) (queue_group_of timing ends all around level)) where
     abbrev has : ℕ → Bool
-    has = (queue_group_of timing all around level).has
+    has = (queue_group_of timing ends all around level).has
 
     never : (p : ℕ) → IsDamage plan s d planned sent rate (length all) p → has ((of plan timing stays states clean s d bus planned sent held keeps rate errors).source p) ≡ true → ⊥
     never p at is = true≢false (sym is ∙ gone (planned_at all ((of plan timing stays states clean s d bus planned sent held keeps rate errors).source p)) (behind_all p at))
       where
-        gone : (x : FlowFrames) → x ≡ no_frames → is_of_queue_group (leasts_of all) (with_unplanned timing around) level x ≡ false
-        gone x same = ap (is_of_queue_group (leasts_of all) (with_unplanned timing around) level) same
+        gone : (x : FlowFrames) → x ≡ no_frames → is_of_queue_group (leasts_of all) (with_unplanned timing ends around) level x ≡ false
+        gone x same = ap (is_of_queue_group (leasts_of all) (with_unplanned timing ends around) level) same
 
-    queue_group_with : KeepToQueueGroup timing bus_with is_foreseen (of plan timing stays states clean s d bus planned sent held keeps rate errors) (queue_group_of timing all around level)
+    queue_group_with : KeepToQueueGroup timing ends bus_with is_foreseen (of plan timing stays states clean s d bus planned sent held keeps rate errors) (queue_group_of timing ends all around level)
     queue_group_with = record {
-      identifiers = λ p in_p. elim (its_kind p in_p) [
-        | inl at ↦ let ident = at.frame.ident in let few = kept.identifiers p at.frame.below in omega (arith, ident, few)
-        | inr at ↦ let ident = at.ident in omega (arith, ident)
+      identifiers = λ p in_p isnt seen. elim (its_kind p in_p) [
+        | inl at ↦ let ident = at.frame.ident in let queued = at.frame.queued in
+            let few = kept.identifiers p at.frame.below (sym at.plans ∙ isnt) (omega (arith, seen, queued)) in omega (arith, ident, few)
+        | inr at ↦ absurd (true≢false (sym (ap (λ (b : Bool). cond b (planned p) true) (le-ltb p s.count at.behind)) ∙ isnt))
       ];
       own_identifiers = own_with plan s d planned sent rate (length all) has never
           (above_zero plan timing stays states clean s d bus planned sent held keeps rate errors) kept.own_identifiers bus
@@ -88,7 +93,7 @@ module _ (plan : Plan) (timing : Timing) (stays : UnitPlan → Bool) (states : D
     }
 
   pub keeps_any_with_errors : i < length all
-      → AreFramesInAnyOrder timing all bus_with (damage_ordered s controllers more.own) is_foreseen (of plan timing stays states clean s d bus planned sent held keeps rate errors) i
+      → AreFramesInAnyOrder timing ends all bus_with (damage_ordered s controllers more.own) is_foreseen (of plan timing stays states clean s d bus planned sent held keeps rate errors) i
   keeps_any_with_errors flow = record {
     known = keeps_with_errors plan timing stays states clean s d bus planned sent held keeps rate errors i flow single;
     of_unit = λ p in_p is un. elim (its_kind p in_p) [

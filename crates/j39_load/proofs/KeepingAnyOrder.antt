@@ -15,6 +15,7 @@ use Rattle.j39_load.specs.declared.frames.flow_frames.FlowFrames.{FlowFrames}
 use Rattle.j39_load.specs.AnyQueues.{are_of_unit, is_member, is_of_queue_group, leasts_of, with_unplanned}
 use Rattle.j39_load.specs.Asked.{asked_of, frames_asked}
 use Rattle.j39_load.specs.KeepsPlan.{IsSingleFlow, KeepsQueues, KeepsToPlan, origins_of, source_place}
+use Rattle.j39_load.specs.LiveClaims.{unplanned_end}
 use Rattle.j39_load.specs.Loads.{any_unit}
 use Rattle.j39_load.specs.PlannedFrames.{AreFramesInAnyOrder, AreFramesOfPlan, KeepToQueueGroup, queue_group_of, no_frames, planned_at}
 use Rattle.j39_load.specs.SentFrames.{FrameSources, Held, IsFirstFrame, IsFrameOf, IsRequestFrame, IsSessionFrame, IsSingleFrame, Part, Source}
@@ -33,6 +34,9 @@ module _ (plan : Plan) (timing : Timing) (stays : UnitPlan → Bool) (states : D
     (keeps : KeepsToPlan plan timing s planned sent held) (controllers : Controllers) (queues : KeepsQueues plan timing s controllers planned sent) where
   abbrev asks : List (Option FlowFrames)
   asks = frames_asked (asked_of timing plan stays)
+
+  abbrev ends : ℕ
+  ends = unplanned_end plan
 
   -- ---- what is reported of a planned frame
 
@@ -60,13 +64,13 @@ module _ (plan : Plan) (timing : Timing) (stays : UnitPlan → Bool) (states : D
 
   module _ (around : FlowFrames) (level : ℕ) where
     abbrev member : ℕ → Bool
-    member = is_member (leasts_of asks) (with_unplanned timing around) level
+    member = is_member (leasts_of asks) (with_unplanned timing ends around) level
 
     abbrev has : ℕ → Bool
-    has = (queue_group_of timing asks around level).has
+    has = (queue_group_of timing ends asks around level).has
 
     abbrev is_of : FlowFrames → Bool
-    is_of x = is_of_queue_group (leasts_of asks) (with_unplanned timing around) level x
+    is_of x = is_of_queue_group (leasts_of asks) (with_unplanned timing ends around) level x
 
     -- a unit of the queue group
     abbrev counts : ℕ → Bool
@@ -239,9 +243,9 @@ module _ (plan : Plan) (timing : Timing) (stays : UnitPlan → Bool) (states : D
     pub any_of : (p : ℕ) (in_p : p < s.count) (is : planned p ≡ true) → has (source_place plan (sent.source p)) ≡ true → TakesAny plan (sent.source p)
     any_of p in_p is of_it = (one p in_p is).of_units.of_any member (subst (λ (f : FlowFrames). is_of f ≡ true) (asked_there p in_p is) of_it)
 
-    queue_group_kept : KeepToQueueGroup timing s planned (origins_of plan sent) (queue_group_of timing asks around level)
+    queue_group_kept : KeepToQueueGroup timing ends s planned (origins_of plan sent) (queue_group_of timing ends asks around level)
     queue_group_kept = record {
-      identifiers = queues.identifiers;
+      identifiers = λ p in_p isnt seen. queues.identifiers p in_p isnt;
       own_identifiers = λ p q t in_p in_q seen is_p of_it at_p at_q same. elim (cases_Bool (planned q)) [
         | inl is_q ↦ (
           is_q,
@@ -258,7 +262,7 @@ module _ (plan : Plan) (timing : Timing) (stays : UnitPlan → Bool) (states : D
     }
 
   pub keeps_any : (i : ℕ) → AreFramesOfPlan timing asks s planned (origins_of plan sent) i
-      → AreFramesInAnyOrder timing asks s controllers planned (origins_of plan sent) i
+      → AreFramesInAnyOrder timing ends asks s controllers planned (origins_of plan sent) i
   keeps_any i known = record {
     known = known;
     of_unit = λ p in_p is un.
@@ -270,7 +274,7 @@ module _ (plan : Plan) (timing : Timing) (stays : UnitPlan → Bool) (states : D
 pub keeps_in_any_order : (plan : Plan) (timing : Timing) (stays : UnitPlan → Bool) → Clean plan → DecidesWhoStays plan stays
     → (s : Schedule) (controllers : Controllers) (planned : ℕ → Bool) (sent : FrameSources) (held : Held) (i : ℕ) → IsSingleFlow plan i
     → IsLegalInAnyOrder s controllers → KeepsToPlan plan timing s planned sent held → KeepsQueues plan timing s controllers planned sent
-    → AreFramesInAnyOrder timing (frames_asked (asked_of timing plan stays)) s controllers planned (origins_of plan sent) i
+    → AreFramesInAnyOrder timing (unplanned_end plan) (frames_asked (asked_of timing plan stays)) s controllers planned (origins_of plan sent) i
 keeps_in_any_order plan timing stays clean states s controllers planned sent held i single legal keeps queues =
     keeps_any plan timing stays states clean s legal.queued_first planned sent held keeps controllers queues i
     (keeps_premises plan timing stays states clean s legal.queued_first planned sent held keeps i single)

@@ -306,7 +306,7 @@ keeps_queues plan timing s sent unit sender few = record {
   sender = λ p u in_p is sends. sender p u sends;
   order = λ u unit at keeps.
       ap (λ (o : Option UnitPlan). option_map_or (λ (x : UnitPlan). not (is_any x.queue)) o true) at ∙ ap (λ (q : Queue). not (is_any q)) keeps;
-  identifiers = λ p in_p. few p;
+  identifiers = λ p in_p isnt. absurd (true≢false isnt);
   others_apart = λ p q t u unit in_p in_q seen is_p is_q takes at any. absurd (true≢false is_q);
   few_unplanned = λ p from to u unit in_p is takes at any seen waits wait.
       let none = none_foreseen s all_planned (λ q. refl) from to in omega (arith, none);

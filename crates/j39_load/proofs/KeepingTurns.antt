@@ -16,6 +16,7 @@ use Rattle.j39_load.specs.Delays.{announcements_place, packets_place}
 use Rattle.j39_load.specs.KeepsBroadcasts.{IsMessageToAll, KeepsTurns}
 use Rattle.j39_load.specs.KeepsPlan.{KeepsQueues, KeepsToPlan, origins_of, source_place}
 use Rattle.j39_load.specs.FlowLoads.{load_of_flow}
+use Rattle.j39_load.specs.LiveClaims.{unplanned_end}
 use Rattle.j39_load.specs.PlannedFrames.{ComeInAnyOrder, ComeInTurn, planned_at}
 use Rattle.j39_load.specs.SentFrames.{FrameSources, HasTime, Held, IsBroadcastFrame, IsFrameOf, IsToAllBy, Source}
 use Rattle.j39_load.specs.SentFrames.{Single, First, InSession, Asking, Announcing, Carrying}
@@ -159,7 +160,7 @@ module _ (plan : Plan) (timing : Timing) (stays : UnitPlan → Bool) (states : D
     }
 
     in_any_turn : (controllers : Controllers) → KeepsQueues plan timing s controllers planned sent
-        → ComeInAnyOrder timing (frames_asked (asked_of timing plan stays)) s controllers planned (origins_of plan sent) i
+        → ComeInAnyOrder timing (unplanned_end plan) (frames_asked (asked_of timing plan stays)) s controllers planned (origins_of plan sent) i
     in_any_turn controllers queues = record {
       known = keeps_any plan timing stays states clean s queued_first planned sent held keeps controllers queues i in_turn.known;
       behind = λ ordered. behind;
@@ -237,16 +238,16 @@ module _ (plan : Plan) (timing : Timing) (stays : UnitPlan → Bool) (states : D
         (in_turn 60416 u (source_place plan (Announcing u m)) announcements_none announcements_there announcements_only (inl refl))
 
     module _ (controllers : Controllers) (queues : KeepsQueues plan timing s controllers planned sent) where
-      pub packets_in_any_turn : ComeInAnyOrder timing (frames_asked (asked_of timing plan stays)) s controllers planned (origins_of plan sent)
+      pub packets_in_any_turn : ComeInAnyOrder timing (unplanned_end plan) (frames_asked (asked_of timing plan stays)) s controllers planned (origins_of plan sent)
           (packets_place (asked_of timing plan stays) u)
       packets_in_any_turn =
-          subst (ComeInAnyOrder timing (frames_asked (asked_of timing plan stays)) s controllers planned (origins_of plan sent)) (sym at_packets)
+          subst (ComeInAnyOrder timing (unplanned_end plan) (frames_asked (asked_of timing plan stays)) s controllers planned (origins_of plan sent)) (sym at_packets)
           (in_any_turn 60160 u (source_place plan (Carrying u m 0)) packets_none packets_there packets_only (inr refl) controllers queues)
 
-      pub announcements_in_any_turn : ComeInAnyOrder timing (frames_asked (asked_of timing plan stays)) s controllers planned (origins_of plan sent)
+      pub announcements_in_any_turn : ComeInAnyOrder timing (unplanned_end plan) (frames_asked (asked_of timing plan stays)) s controllers planned (origins_of plan sent)
           (announcements_place (asked_of timing plan stays) u)
       announcements_in_any_turn =
-          subst (ComeInAnyOrder timing (frames_asked (asked_of timing plan stays)) s controllers planned (origins_of plan sent)) (sym at_announcements)
+          subst (ComeInAnyOrder timing (unplanned_end plan) (frames_asked (asked_of timing plan stays)) s controllers planned (origins_of plan sent)) (sym at_announcements)
           (in_any_turn 60416 u (source_place plan (Announcing u m)) announcements_none announcements_there announcements_only (inl refl) controllers queues)
 
 -- ---- plans
@@ -265,9 +266,9 @@ pub broadcasts_in_any_order : (plan : Plan) (timing : Timing) (stays : UnitPlan 
     → (s : Schedule) (controllers : Controllers) (planned : ℕ → Bool) (sent : FrameSources) (held : Held) (u m : ℕ) → m < sent.broadcasts.count u
     → IsLegalInAnyOrder s controllers → KeepsToPlan plan timing s planned sent held → KeepsQueues plan timing s controllers planned sent
     → KeepsTurns s planned sent held
-    → ComeInAnyOrder timing (frames_asked (asked_of timing plan stays)) s controllers planned (origins_of plan sent)
+    → ComeInAnyOrder timing (unplanned_end plan) (frames_asked (asked_of timing plan stays)) s controllers planned (origins_of plan sent)
     (announcements_place (asked_of timing plan stays) u)
-    × ComeInAnyOrder timing (frames_asked (asked_of timing plan stays)) s controllers planned (origins_of plan sent) (packets_place (asked_of timing plan stays) u)
+    × ComeInAnyOrder timing (unplanned_end plan) (frames_asked (asked_of timing plan stays)) s controllers planned (origins_of plan sent) (packets_place (asked_of timing plan stays) u)
 broadcasts_in_any_order plan timing stays clean states s controllers planned sent held u m below legal keeps queues turns = (
   announcements_in_any_turn plan timing stays states clean s legal.queued_first planned sent held keeps turns u m below controllers queues,
   packets_in_any_turn plan timing stays states clean s legal.queued_first planned sent held keeps turns u m below controllers queues,

@@ -25,6 +25,7 @@ use Rattle.j39_load.specs.KeepsAnswers.{AnswerRequests, Answered}
 use Rattle.j39_load.specs.KeepsBroadcasts.{IsMessageToAll, KeepsTurns}
 use Rattle.j39_load.specs.KeepsPlan.{KeepsQueues, KeepsToPlan}
 use Rattle.j39_load.specs.KeptDeadlines.{AreEachInTime, AreSentWhole, TakeTurns, whole_from}
+use Rattle.j39_load.specs.LiveClaims.{unplanned_end}
 use Rattle.j39_load.specs.LoadFindings.{AreLoadFindings, AsksOfBus, further_findings, load_findings}
 use Rattle.j39_load.specs.Loads.{bits_at_least, bits_at_most, bits_inside}
 use Rattle.j39_load.specs.SentFrames.{Broadcasts, FrameSources, Held, IsWithinUnitMs}
@@ -146,7 +147,7 @@ module _ (plan : Plan) (timing : Timing) (clean : Clean plan) (stays : UnitPlan 
   late_at n inside its_flow = within_bits timing one.pace.jitter (b.release u n) (b.wanted u n)
       (subst (λ (x : Pace). IsWithinUnitMs timing x.jitter (b.release u n) (b.wanted u n)) (pace_at n inside its_flow) (its_message n inside).jitter_at_most)
 
-  module _ (buffering : Buffering) (is_buffering : IsBuffering timing (frames_asked (asked_of timing plan stays)) buffering) (turn : Turn)
+  module _ (buffering : Buffering) (is_buffering : IsBuffering timing (unplanned_end plan) (frames_asked (asked_of timing plan stays)) buffering) (turn : Turn)
       (has : HasTurn timing (asked_of timing plan stays) buffering u turn) (up : keeps_up its turn ≡ true)
       (seen : b.release u m + (jitter + turn.time) < s.now) where
     abbrev InTime : Type 0

@@ -87,7 +87,7 @@ module _ (plan : Plan) (timing : Timing) (clean : Clean plan) (stays : UnitPlan 
   -- the pause of a flow's unit, whose long messages to all have a deadline
   pause_of : (f : ℕ) (flow : FlowPlan) (pace : Pace) (group : GroupPlan) (limit : ℕ) → slice_get plan.flows.items f ≡ Some flow → flow.pace ≡ Some pace
       → slice_get plan.groups.items flow.group ≡ Some group → 8 < group.most → flow.to ≡ ToAllUnits → pace.deadline ≡ Some limit
-      → (buffering : Buffering) × IsBuffering timing (frames_asked asked) buffering × HasPause timing asked buffering flow.sender
+      → (buffering : Buffering) × IsBuffering timing asked.unplanned_end (frames_asked asked) buffering × HasPause timing asked buffering flow.sender
   pause_of f flow pace group limit its paced of long goes written =
       let its_load : FlowLoad = load plan timing stays f flow pace group its paced of in
       let at = at_place plan timing stays f flow pace group its paced of in
@@ -121,7 +121,7 @@ module _ (plan : Plan) (timing : Timing) (clean : Clean plan) (stays : UnitPlan 
       let frames : pause.load.packets ≡ (unit_asks plan timing stays sent.broadcasts u m message).packets = same_Some _ _ (sym first ∙ there) in
       let single : (pause.load.packets.twin_ident ≡ None) × IsSpaced pause.load.packets.stream =
       (ap (λ (x : FlowFrames). x.twin_ident) frames, ap (λ (x : FlowFrames). askers_want x.stream) frames) in
-      let within = sent_in_any_order timing (frames_asked asked) (all_paced timing plan stays) (all_sent timing plan stays) buffering is_buffering (packets_place asked u)
+      let within = sent_in_any_order timing asked.unplanned_end (frames_asked asked) (all_paced timing plan stays) (all_sent timing plan stays) buffering is_buffering (packets_place asked u)
       pause.load.packets first pause.wait s controllers planned (origins_of plan sent) legal come single pause.is in
       let queued = within_bits timing timing.broadcast_gap_most (frame_end s p) (s.queued q) gap in
       let fewer = least_inside timing 750 in

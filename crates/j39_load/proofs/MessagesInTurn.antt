@@ -232,7 +232,7 @@ module _ (plan : Plan) (timing : Timing) (clean : Clean plan) (stays : UnitPlan 
 
   -- ---- in turn
 
-  module _ (buffering : Buffering) (is_buffering : IsBuffering timing (frames_asked asked) buffering) (turn : Turn)
+  module _ (buffering : Buffering) (is_buffering : IsBuffering timing asked.unplanned_end (frames_asked asked) buffering) (turn : Turn)
       (has : HasTurn timing asked buffering u turn) where
     abbrev first_time : ℕ
     first_time = has.announced + has.load.announcements.stream.bits
@@ -252,7 +252,7 @@ module _ (plan : Plan) (timing : Timing) (clean : Clean plan) (stays : UnitPlan 
         let come = (broadcasts_in_any_order plan timing stays clean asks.standing s controllers planned sent held u m below legal keeps queues turns).0 in
         let single : (has.load.announcements.twin_ident ≡ None) × IsSpaced has.load.announcements.stream =
         (ap (λ (l : UnitLoad). l.announcements.twin_ident) (asks_of m below), ap (λ (l : UnitLoad). askers_want l.announcements.stream) (asks_of m below)) in
-        sent_in_any_order timing (frames_asked asked) (all_paced timing plan stays) (all_sent timing plan stays) buffering is_buffering (announcements_place asked u)
+        sent_in_any_order timing asked.unplanned_end (frames_asked asked) (all_paced timing plan stays) (all_sent timing plan stays) buffering is_buffering (announcements_place asked u)
         has.load.announcements (announcements_read asked u has.load has.at) has.announced s controllers planned of legal come single has.first
 
     sent_rest : (m : ℕ) → m < count → AreSentWithin s planned of (packets_place asked u) has.load.packets.stream has.sent
@@ -260,7 +260,7 @@ module _ (plan : Plan) (timing : Timing) (clean : Clean plan) (stays : UnitPlan 
         let come = (broadcasts_in_any_order plan timing stays clean asks.standing s controllers planned sent held u m below legal keeps queues turns).1 in
         let single : (has.load.packets.twin_ident ≡ None) × IsSpaced has.load.packets.stream =
         (ap (λ (l : UnitLoad). l.packets.twin_ident) (asks_of m below), ap (λ (l : UnitLoad). askers_want l.packets.stream) (asks_of m below)) in
-        sent_in_any_order timing (frames_asked asked) (all_paced timing plan stays) (all_sent timing plan stays) buffering is_buffering (packets_place asked u)
+        sent_in_any_order timing asked.unplanned_end (frames_asked asked) (all_paced timing plan stays) (all_sent timing plan stays) buffering is_buffering (packets_place asked u)
         has.load.packets (packets_read asked u has.load has.at) has.sent s controllers planned of legal come single has.rest
 
     -- a message that is announced by some bit

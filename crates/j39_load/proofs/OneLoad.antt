@@ -47,6 +47,7 @@ use Rattle.j39_load.specs.AnswerStreams.{askers_of, load_for}
 use Rattle.j39_load.specs.FlowLoads.{load_of_flow}
 use Rattle.j39_load.specs.Loads.{long_messages}
 use Rattle.j39_load.specs.FlowLoads.{loads_of}
+use Rattle.j39_load.specs.LiveClaims.{unplanned_end}
 use Rattle.j39_load.specs.Loads.{of_unit, packet_frames, packet_ident, session_ident, single_frames}
 use Rattle.j39_load.specs.RequestLoads.{load_of_request, request_ident, request_load, request_loads_of}
 use Rattle.j39_findings.specs.Standing.{DecidesWhoStays}
@@ -229,7 +230,8 @@ module _ (timing : Timing) (stays other : UnitPlan → Bool) (units boxes : List
 module _ (plan vehicle : Plan) (timing : Timing) (stays other : UnitPlan → Bool)
     (both : (v : ℕ) → AreBoth (AreSeenAlike stays other) (slice_get plan.units.items v) (slice_get vehicle.units.items v))
     (count : length vehicle.units.items ≡ length plan.units.items) (groups : vehicle.groups.items ≡ plan.groups.items)
-    (flows : vehicle.flows.items ≡ plan.flows.items) (requests : vehicle.requests.items ≡ plan.requests.items) where
+    (flows : vehicle.flows.items ≡ plan.flows.items) (requests : vehicle.requests.items ≡ plan.requests.items)
+    (ends : unplanned_end vehicle ≡ unplanned_end plan) where
   flow_same : (flow : FlowPlan) (pace : Option Pace) (group : Option GroupPlan) → flow.pace ≡ pace → slice_get plan.groups.items flow.group ≡ group
       → load_of_flow timing plan stays flow ≡ load_of_flow timing vehicle other flow
   flow_same flow None group paced is = rw paced refl
@@ -258,12 +260,15 @@ module _ (plan vehicle : Plan) (timing : Timing) (stays other : UnitPlan → Boo
   pub asked_alike : asked_of timing plan stays ≡ asked_of timing vehicle other
   asked_alike =
       ap (λ (loads : List (Option FlowLoad)).
-      asked_by loads (unit_loads_of timing plan.units.items stays loads) (request_loads_of timing plan stays)) one_load
-      ∙ ap (λ (units : List (Option UnitLoad)). asked_by (loads_of timing vehicle other) units (request_loads_of timing plan stays))
+      asked_by loads (unit_loads_of timing plan.units.items stays loads) (request_loads_of timing plan stays) (unplanned_end plan)) one_load
+      ∙ ap (λ (units : List (Option UnitLoad)). asked_by (loads_of timing vehicle other) units (request_loads_of timing plan stays) (unplanned_end plan))
       (unit_loads_same timing stays other plan.units.items vehicle.units.items count both (loads_of timing vehicle other))
       ∙ ap (λ (asking : List (Option RequestLoad)).
-      asked_by (loads_of timing vehicle other) (unit_loads_of timing vehicle.units.items other (loads_of timing vehicle other)) asking)
+      asked_by (loads_of timing vehicle other) (unit_loads_of timing vehicle.units.items other (loads_of timing vehicle other)) asking (unplanned_end plan))
       one_request_load
+      ∙ ap (λ (n : ℕ).
+      asked_by (loads_of timing vehicle other) (unit_loads_of timing vehicle.units.items other (loads_of timing vehicle other))
+      (request_loads_of timing vehicle other) n) (sym ends)
 
 -- who stays is reported in one way, and so is what a plan asks
 module _ (plan : Plan) (timing : Timing) (stays other : UnitPlan → Bool) (states : DecidesWhoStays plan stays) (report : DecidesWhoStays plan other) where
@@ -280,7 +285,7 @@ module _ (plan : Plan) (timing : Timing) (stays other : UnitPlan → Bool) (stat
     }
 
   pub same_asked : asked_of timing plan stays ≡ asked_of timing plan other
-  same_asked = asked_alike plan plan timing stays other seen refl refl refl refl
+  same_asked = asked_alike plan plan timing stays other seen refl refl refl refl refl
 
 -- ---- waits
 
@@ -337,7 +342,7 @@ module _ (timing : Timing) (all : List (Option FlowFrames)) (flow : ℕ) where
 
 -- ---- frames of units that keep no order
 
-module _ (timing : Timing) (all : List (Option FlowFrames)) where
+module _ (timing : Timing) (ends : ℕ) (all : List (Option FlowFrames)) where
   one_level : (own : FlowFrames) (level other : ℕ) → IsQueueGroupLevel (leasts_of all) all own level → IsQueueGroupLevel (leasts_of all) all own other
       → level ≡ other
   one_level own level other is another =
@@ -345,31 +350,31 @@ module _ (timing : Timing) (all : List (Option FlowFrames)) where
       let above = another.least level is.is in
       omega (arith, below, above)
 
-  one_queue_group_wait : (own : FlowFrames) (wait other : Option ℕ) → IsQueueGroupWait timing (leasts_of all) all own wait
-      → IsQueueGroupWait timing (leasts_of all) all own other → wait ≡ other
+  one_queue_group_wait : (own : FlowFrames) (wait other : Option ℕ) → IsQueueGroupWait timing ends (leasts_of all) all own wait
+      → IsQueueGroupWait timing ends (leasts_of all) all own other → wait ≡ other
   one_queue_group_wait own wait other is another =
-      let same = one_level (with_unplanned timing own) is.level another.level is.of_queue_group another.of_queue_group in
-      one_wait timing (demands_of all) (streams_with timing (leasts_of all) all (with_unplanned timing own) another.level) (blocking_with timing own) wait other
-      (subst (λ (n : ℕ). IsWaitWith timing (demands_of all) (streams_with timing (leasts_of all) all (with_unplanned timing own) n) (blocking_with timing own) wait) same
+      let same = one_level (with_unplanned timing ends own) is.level another.level is.of_queue_group another.of_queue_group in
+      one_wait timing (demands_of all) (streams_with timing (leasts_of all) all (with_unplanned timing ends own) another.level) (blocking_with timing own) wait other
+      (subst (λ (n : ℕ). IsWaitWith timing (demands_of all) (streams_with timing (leasts_of all) all (with_unplanned timing ends own) n) (blocking_with timing own) wait) same
       is.least_wait) another.least_wait
 
-  one_buffering_delay : (frames : Option FlowFrames) (wait other : Option ℕ) → IsBufferedFor timing all frames wait → IsBufferedFor timing all frames other
+  one_buffering_delay : (frames : Option FlowFrames) (wait other : Option ℕ) → IsBufferedFor timing ends all frames wait → IsBufferedFor timing ends all frames other
       → wait ≡ other
   one_buffering_delay None wait other is another = is ∙ sym another
   one_buffering_delay (Some f) wait other is another = go (keep_order f) is another
     where
-      go : (keeps : Bool) → MatchBool keeps (wait ≡ Some 0) (IsQueueGroupWait timing (leasts_of all) all f wait)
-          → MatchBool keeps (other ≡ Some 0) (IsQueueGroupWait timing (leasts_of all) all f other) → wait ≡ other
+      go : (keeps : Bool) → MatchBool keeps (wait ≡ Some 0) (IsQueueGroupWait timing ends (leasts_of all) all f wait)
+          → MatchBool keeps (other ≡ Some 0) (IsQueueGroupWait timing ends (leasts_of all) all f other) → wait ≡ other
       go true is another = is ∙ sym another
       go false is another = one_queue_group_wait f wait other is another
 
-  one_waits : (waits others : List (Option ℕ)) → AreBufferingDelays timing all waits → AreBufferingDelays timing all others → waits ≡ others
+  one_waits : (waits others : List (Option ℕ)) → AreBufferingDelays timing ends all waits → AreBufferingDelays timing ends all others → waits ≡ others
   one_waits waits others report another =
       ext_get_or None waits others (report.count ∙ sym another.count)
       (λ j below. let inside : j < length all = omega (arith, below, report.count) in
       one_buffering_delay (slice_index_or all j None) _ _ (report.each j inside) (another.each j inside))
 
-  one_buffering : (buffering other : Buffering) → IsBuffering timing all buffering → IsBuffering timing all other → buffering ≡ other
+  one_buffering : (buffering other : Buffering) → IsBuffering timing ends all buffering → IsBuffering timing ends all other → buffering ≡ other
   one_buffering buffering other is another =
       let waits = one_waits buffering.waits other.waits is.bounded another.bounded in
       let frames : buffering.frames ≡ other.frames = is.frames ∙ ap (λ (ws : List (Option ℕ)). buffered ws all) waits ∙ sym another.frames in
@@ -472,7 +477,7 @@ delays_same timing asked delays others report another =
     (λ flow below.
     let (buffering, is, its) = report.each flow below in
     let (other, are, theirs) = another.each flow (omega (arith, below, report.count, another.count)) in
-    let same = one_buffering timing (frames_asked asked) buffering other is are in
+    let same = one_buffering timing asked.unplanned_end (frames_asked asked) buffering other is are in
     one_known_delay timing asked other flow _ _
     (subst (λ (o : Buffering). HasDelayBy timing asked o flow (slice_index_or delays flow None)) same its) theirs)
 

@@ -1,7 +1,7 @@
 -- Frames of units that keep no order: a bus keeps to the premises of their queue groups; so they are in time there for which the wait that is reported has
 -- room.
 use Rattle.std.proofs.Common.{◌≡◌, ℕ, zero, suc, ◌+◌, ◌^◌, ◌<◌, ◌≤◌, ◌⊎◌, Bool, true, false, not, ◌||◌, eqb, ltb, if◌then◌else◌, List, []}
-use Rattle.std.proofs.Common.{◌∷◌, ◌++◌, length, get_or, min, All, IfSome, unwrap_or, is_some, Option, Some, None, refl, sym, ap, ◌∙◌, subst, inl, inr}
+use Rattle.std.proofs.Common.{◌∷◌, ◌++◌, length, get_or, min, All, IfSome, unwrap_or, is_some, max, Option, Some, None, refl, sym, ap, ◌∙◌, subst, inl, inr}
 use Rattle.std.proofs.Common.{arith}
 use Rattle.std.proofs.lemmas.Bool.{eq-eqb, eqb-true, false≢true, lt-ltb, ltb-true, or_cases, or_left, or_right}
 use Rattle.std.proofs.lemmas.Bool.{true≢false}
@@ -122,7 +122,7 @@ found asked j u is = go (get_or asked j None) refl
 pub read : (asked : List (Option FlowFrames)) (j : ℕ) (x : FlowFrames) → get_or asked j None ≡ Some x → planned_at asked j ≡ x
 read asked j x at = ap (λ (o : Option FlowFrames). unwrap_or o no_frames) at
 
-module _ (timing : Timing) (asked : List (Option FlowFrames)) (paced : All HasPeriod (asked ++ damage_frames timing))
+module _ (timing : Timing) (ends : ℕ) (asked : List (Option FlowFrames)) (paced : All HasPeriod (asked ++ damage_frames timing))
     (sent : All (λ (f : Option FlowFrames). IfSome f IsSent) asked) where
   abbrev all : List (Option FlowFrames)
   all = asked ++ damage_frames timing
@@ -154,9 +154,9 @@ module _ (timing : Timing) (asked : List (Option FlowFrames)) (paced : All HasPe
 
   -- ---- a queue group
 
-  module _ (own : FlowFrames) (level : ℕ) (is_level : IsQueueGroupLevel leasts asked (with_unplanned timing own) level) where
+  module _ (own : FlowFrames) (level : ℕ) (is_level : IsQueueGroupLevel leasts asked (with_unplanned timing ends own) level) where
     abbrev own_too : FlowFrames
-    own_too = with_unplanned timing own
+    own_too = with_unplanned timing ends own
 
     abbrev has_member : ℕ → Bool
     has_member u = is_member leasts own_too level u
@@ -199,21 +199,21 @@ module _ (timing : Timing) (asked : List (Option FlowFrames)) (paced : All HasPe
               member_below u l known (omega (arith, le, rises, most))
         ]
 
-    last_above : 0 < timing.unplanned → 2 ^ 29 ≤ level
+    last_above : 0 < timing.unplanned → ends ≤ level
     last_above some =
         let most : own_too.last_ident ≤ level = is_level.is.own_frames in
         let isnt : eqb timing.unplanned 0 ≡ false = elim (eqb_tells timing.unplanned 0) [
           | inl both ↦ absurd (let none : timing.unplanned ≡ 0 = both.1 in omega (arith, none, some))
           | inr apart ↦ apart.0
         ] in
-        let last : own_too.last_ident ≡ 2 ^ 29 = ap (λ (b : Bool). if b then own.last_ident else 2 ^ 29) isnt in
+        let last : own_too.last_ident ≡ max own.last_ident ends = ap (λ (b : Bool). if b then own.last_ident else max own.last_ident ends) isnt in
         omega (arith, most, last)
 
     module _ (s : Schedule) (controllers : Controllers) (planned : ℕ → Bool) (of : Origins) (i : ℕ)
-        (known : AreFramesInAnyOrder timing asked s controllers planned of i)
-        (keeps : KeepToQueueGroup timing s planned of (queue_group_of timing asked own level)) where
+        (known : AreFramesInAnyOrder timing ends asked s controllers planned of i)
+        (keeps : KeepToQueueGroup timing ends s planned of (queue_group_of timing ends asked own level)) where
       abbrev queue_group : QueueGroup
-      queue_group = queue_group_of timing asked own level
+      queue_group = queue_group_of timing ends asked own level
 
       from_least : (p : ℕ) → p < s.count → planned p ≡ true → (x : FlowFrames) → get_or asked (of.source p) None ≡ Some x → x.least_ident ≤ s.ident p
       from_least p in_p is x at =
@@ -263,8 +263,8 @@ module _ (timing : Timing) (asked : List (Option FlowFrames)) (paced : All HasPe
         closed = closed;
         own_identifiers = keeps.own_identifiers;
         few_unplanned = keeps.few_unplanned;
-        above_all = λ p in_p some.
-            let few : s.ident p < 2 ^ 29 = keeps.identifiers p in_p in
+        above_unplanned = λ p in_p isnt seen some.
+            let few : s.ident p < ends = keeps.identifiers p in_p isnt seen in
             let high = last_above some in
             omega (arith, few, high);
       }
@@ -272,23 +272,23 @@ module _ (timing : Timing) (asked : List (Option FlowFrames)) (paced : All HasPe
   -- ---- frames of units that keep no order
 
   module _ (s : Schedule) (controllers : Controllers) (planned : ℕ → Bool) (of : Origins) (legal : IsLegalInAnyOrder s controllers) (i : ℕ)
-      (known : AreFramesInAnyOrder timing asked s controllers planned of i) where
+      (known : AreFramesInAnyOrder timing ends asked s controllers planned of i) where
     module _ (j : ℕ) (own : FlowFrames) (at : get_or asked j None ≡ Some own) (kept : keep_order own ≡ false)
         (goes : (j ≡ i) ⊎ ((planned_at asked j).least_ident < (planned_at asked i).greatest_ident)) (wait : ℕ)
-        (waits : IsQueueGroupWait timing leasts asked own (Some wait)) where
+        (waits : IsQueueGroupWait timing ends leasts asked own (Some wait)) where
       here : planned_at asked j ≡ own
       here = read asked j own at
 
-      keeps : KeepToQueueGroup timing s planned of (queue_group_of timing asked own waits.level)
-      keeps = subst (λ (f : FlowFrames). KeepToQueueGroup timing s planned of (queue_group_of timing asked f waits.level)) here
+      keeps : KeepToQueueGroup timing ends s planned of (queue_group_of timing ends asked own waits.level)
+      keeps = subst (λ (f : FlowFrames). KeepToQueueGroup timing ends s planned of (queue_group_of timing ends asked f waits.level)) here
           (known.queue_groups j waits.level goes (subst (λ (f : FlowFrames). keep_order f ≡ false) (sym here) kept)
-          (subst (λ (f : FlowFrames). IsQueueGroupLevel leasts asked (with_unplanned timing f) waits.level) (sym here) waits.of_queue_group))
+          (subst (λ (f : FlowFrames). IsQueueGroupLevel leasts asked (with_unplanned timing ends f) waits.level) (sym here) waits.of_queue_group))
 
-      its_traffic : IsTrafficOfQueueGroup s controllers (traffic_of all) timing.unplanned (longest_frame 8) planned of (queue_group_of timing asked own waits.level)
+      its_traffic : IsTrafficOfQueueGroup s controllers (traffic_of all) timing.unplanned (longest_frame 8) planned of (queue_group_of timing ends asked own waits.level)
       its_traffic = queue_group_known own waits.level waits.of_queue_group s controllers planned of i known keeps
 
-      member : (queue_group_of timing asked own waits.level).has j ≡ true
-      member = subst (λ (f : FlowFrames). is_of_queue_group leasts (with_unplanned timing own) waits.level f ≡ true) (sym here)
+      member : (queue_group_of timing ends asked own waits.level).has j ≡ true
+      member = subst (λ (f : FlowFrames). is_of_queue_group leasts (with_unplanned timing ends own) waits.level f ≡ true) (sym here)
           (own_with own waits.level waits.of_queue_group j at kept)
 
       there : planned_at all j ≡ own
@@ -298,25 +298,25 @@ module _ (timing : Timing) (asked : List (Option FlowFrames)) (paced : All HasPe
       small = subst (λ (f : FlowFrames). f.stream.bits ≤ 160) (sym there) (is_sent j own at).short
 
       pub begun : AreBegunWithin s planned of j wait
-      begun = begun_within s controllers (traffic_of all) timing.unplanned (longest_frame 8) planned of (queue_group_of timing asked own waits.level) legal
-          its_traffic positive j wait member small (queue_group_fits timing asked own waits.level wait j there waits.least_wait.1)
+      begun = begun_within s controllers (traffic_of all) timing.unplanned (longest_frame 8) planned of (queue_group_of timing ends asked own waits.level) legal
+          its_traffic positive j wait member small (queue_group_fits timing ends asked own waits.level wait j there waits.least_wait.1)
 
       pub any_in_time : IsStreamInTime s planned of j own.stream wait
       any_in_time = subst (λ (f : FlowFrames). IsStreamInTime s planned of j f.stream wait) there
-          (queue_group_in_time s controllers (traffic_of all) timing.unplanned (longest_frame 8) planned of (queue_group_of timing asked own waits.level) legal
-          its_traffic positive j wait member small (queue_group_fits timing asked own waits.level wait j there waits.least_wait.1))
+          (queue_group_in_time s controllers (traffic_of all) timing.unplanned (longest_frame 8) planned of (queue_group_of timing ends asked own waits.level) legal
+          its_traffic positive j wait member small (queue_group_fits timing ends asked own waits.level wait j there waits.least_wait.1))
 
       pub any_sent : AreSentWithin s planned of j own.stream wait
       any_sent = subst (λ (f : FlowFrames). AreSentWithin s planned of j f.stream wait) there
-          (queue_group_sent s controllers (traffic_of all) timing.unplanned (longest_frame 8) planned of (queue_group_of timing asked own waits.level) legal
-          its_traffic positive j wait member small (queue_group_fits timing asked own waits.level wait j there waits.least_wait.1))
+          (queue_group_sent s controllers (traffic_of all) timing.unplanned (longest_frame 8) planned of (queue_group_of timing ends asked own waits.level) legal
+          its_traffic positive j wait member small (queue_group_fits timing ends asked own waits.level wait j there waits.least_wait.1))
 
   -- the wait that is reported of such frames
-  pub wait_of_queue_group : (waits : List (Option ℕ)) → AreBufferingDelays timing asked waits → (j : ℕ) (x : FlowFrames) → get_or asked j None ≡ Some x
-      → keep_order x ≡ false → (wait : ℕ) → get_or waits j None ≡ Some wait → IsQueueGroupWait timing leasts asked x (Some wait)
+  pub wait_of_queue_group : (waits : List (Option ℕ)) → AreBufferingDelays timing ends asked waits → (j : ℕ) (x : FlowFrames) → get_or asked j None ≡ Some x
+      → keep_order x ≡ false → (wait : ℕ) → get_or waits j None ≡ Some wait → IsQueueGroupWait timing ends leasts asked x (Some wait)
   wait_of_queue_group waits states j x at kept wait known =
-      let held : IsBufferedFor timing asked (Some x) (get_or waits j None) =
-      subst (λ (o : Option FlowFrames). IsBufferedFor timing asked o (get_or waits j None)) at (states.each j (get_or_inside asked j x at)) in
-      let by_queue_group : IsQueueGroupWait timing leasts asked x (get_or waits j None) =
-      subst (λ (b : Bool). MatchBool b (get_or waits j None ≡ Some 0) (IsQueueGroupWait timing leasts asked x (get_or waits j None))) kept held in
-      subst (IsQueueGroupWait timing leasts asked x) known by_queue_group
+      let held : IsBufferedFor timing ends asked (Some x) (get_or waits j None) =
+      subst (λ (o : Option FlowFrames). IsBufferedFor timing ends asked o (get_or waits j None)) at (states.each j (get_or_inside asked j x at)) in
+      let by_queue_group : IsQueueGroupWait timing ends leasts asked x (get_or waits j None) =
+      subst (λ (b : Bool). MatchBool b (get_or waits j None ≡ Some 0) (IsQueueGroupWait timing ends leasts asked x (get_or waits j None))) kept held in
+      subst (IsQueueGroupWait timing ends leasts asked x) known by_queue_group

@@ -18,7 +18,7 @@ use Rattle.j39_timing.specs.Sums.{total}
 use Rattle.j39_timing.specs.Waits.{Demand, lesser_share, need}
 use Rattle.j39_timing.specs.declared.stream.Stream.{Stream}
 
-module _ (timing : Timing) (asked : List (Option FlowFrames)) (own : FlowFrames) (level span : ℕ) where
+module _ (timing : Timing) (ends : ℕ) (asked : List (Option FlowFrames)) (own : FlowFrames) (level span : ℕ) where
   abbrev demands : List Demand
   demands = demands_of (asked ++ damage_frames timing)
 
@@ -26,7 +26,7 @@ module _ (timing : Timing) (asked : List (Option FlowFrames)) (own : FlowFrames)
   leasts = leasts_of asked
 
   abbrev own_too : FlowFrames
-  own_too = with_unplanned timing own
+  own_too = with_unplanned timing ends own
 
   abbrev all : List (Option FlowFrames)
   all = asked ++ damage_frames timing
@@ -101,16 +101,16 @@ module _ (timing : Timing) (asked : List (Option FlowFrames)) (own : FlowFrames)
       omega (arith, whole, two, parts, same, damage, needed)
 
 -- the wait that is reported has room
-pub queue_group_fits : (timing : Timing) (asked : List (Option FlowFrames)) (own : FlowFrames) (level wait i : ℕ)
+pub queue_group_fits : (timing : Timing) (ends : ℕ) (asked : List (Option FlowFrames)) (own : FlowFrames) (level wait i : ℕ)
     → planned_at (asked ++ damage_frames timing) i ≡ own
-    → need (demands_of asked) (blocking_with timing own) (streams_with timing (leasts_of asked) asked (with_unplanned timing own) level) wait ≤ wait
-    → QueueGroupDemandFits (traffic_of (asked ++ damage_frames timing)) (queue_group_of timing asked own level) timing.unplanned (longest_frame 8) i wait
-queue_group_fits timing asked own level wait i read enough =
-    let most = queue_group_taken timing asked own level (wait + 1) in
+    → need (demands_of asked) (blocking_with timing own) (streams_with timing (leasts_of asked) asked (with_unplanned timing ends own) level) wait ≤ wait
+    → QueueGroupDemandFits (traffic_of (asked ++ damage_frames timing)) (queue_group_of timing ends asked own level) timing.unplanned (longest_frame 8) i wait
+queue_group_fits timing ends asked own level wait i read enough =
+    let most = queue_group_taken timing ends asked own level (wait + 1) in
     let needed : need (demands_of (asked ++ damage_frames timing)) (blocking_with timing own)
-    (streams_with timing (leasts_of asked) asked (with_unplanned timing own) level) wait ≤ wait =
-    subst (λ (ds : List Demand). need ds (blocking_with timing own) (streams_with timing (leasts_of asked) asked (with_unplanned timing own) level) wait ≤ wait)
+    (streams_with timing (leasts_of asked) asked (with_unplanned timing ends own) level) wait ≤ wait =
+    subst (λ (ds : List Demand). need ds (blocking_with timing own) (streams_with timing (leasts_of asked) asked (with_unplanned timing ends own) level) wait ≤ wait)
     (sym (demands_with_damage timing asked)) enough in
     subst (λ (x : FlowFrames). longest_frame 8 * (1 + timing.unplanned)
-    + total (length (asked ++ damage_frames timing)) (taken timing asked own level (wait + 1)) ≤ wait + x.stream.bits) (sym read)
+    + total (length (asked ++ damage_frames timing)) (taken timing ends asked own level (wait + 1)) ≤ wait + x.stream.bits) (sym read)
     (omega (arith, most, needed))

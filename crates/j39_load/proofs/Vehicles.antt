@@ -1,11 +1,11 @@
 -- The plan of each vehicle asks the same of its bus as the plan, where no two units may be one.
-use Rattle.std.proofs.Common.{◌≡◌, ◌≢◌, ℕ, zero, suc, ◌<◌, Bool, true, false, List, [], ◌∷◌, Option, Some, None, if◌then◌else◌, ◌==◌, ◌++◌}
+use Rattle.std.proofs.Common.{◌≡◌, ◌≢◌, ℕ, zero, suc, ◌<◌, Bool, true, false, List, [], ◌∷◌, Option, Some, None, if◌then◌else◌, ◌==◌, ◌&&◌, ◌^◌, ◌++◌}
 use Rattle.std.proofs.Common.{refl, sym, ◌+◌, ◌≤◌, ◌∙◌, ap, cond, max, subst, inl, inr, arith}
 use denote.Struct.Props.{props}
 use mathlib.Core.HLevel.{is_prop→PathP}
 use Rattle.std.specs.Bool.{MatchBool}
 use Rattle.std.specs.List.{AllZip, slice_get}
-use Rattle.std.specs.Option.{option_map}
+use Rattle.std.specs.Option.{option_map, option_map_or}
 use Rattle.std.proofs.lemmas.Bool.{cases_Bool, eqb-true, eq-eqb}
 use Rattle.std.proofs.lemmas.Option.{none-some, same_Some}
 use Rattle.std.proofs.lemmas.List.Sums.{sum_by-cons}
@@ -25,7 +25,7 @@ use Rattle.j39_load.specs.Ages.{old_needs}
 use Rattle.j39_load.specs.Asked.{Asked, asked_of, total_load}
 use Rattle.j39_load.specs.Delays.{AreFlowDelays}
 use Rattle.j39_load.specs.BusTimes.{timing_of, with_claims}
-use Rattle.j39_load.specs.LiveClaims.{claiming, claims_stated, unplanned_of}
+use Rattle.j39_load.specs.LiveClaims.{claiming, claims_stated, last_claim, unplanned_end, unplanned_of}
 use Rattle.j39_load.specs.LoadFindings.{AreLoadFindings, AsksOfBus, all_findings, flows_asked_too_often, load_findings}
 use Rattle.j39_findings.specs.Standing.{DecidesWhoStays}
 use Rattle.j39_load.specs.VehicleLoads.{AreLoadsAlike, StandAlike}
@@ -94,6 +94,14 @@ module _ (plan vehicle : Plan) (is : IsVehicleOf plan vehicle) (apart : AreDisti
         unplanned_range = is_prop→PathP (λ k. unplanned timing k ≤ 1000) (λ k. hlevel props) (few_unplanned vehicle timing) (few_unplanned plan timing) i;
       }
 
+  -- and what isn't planned may have the same identifiers
+  ends_alike : unplanned_end vehicle ≡ unplanned_end plan
+  ends_alike =
+      ap (λ (b : Bool). end_of b vehicle.timing) is.live ∙ ap (end_of plan.live) is.timing
+    where
+      end_of : Bool → Option Timing → ℕ
+      end_of live timing = if live && option_map_or (λ (t : Timing). t.unplanned == 0) timing false then last_claim + 1 else 2 ^ 29
+
   abbrev units : List UnitPlan
   units = plan.units.items
 
@@ -148,7 +156,7 @@ module _ (plan vehicle : Plan) (is : IsVehicleOf plan vehicle) (apart : AreDisti
 
     same_asked : (timing : Timing) → asked_of timing plan stays ≡ asked_of timing vehicle stated
     same_asked timing =
-        asked_alike plan vehicle timing stays stated seen (AllZip-long IsBoxOf units boxes is.boxes) is.groups is.flows is.requests
+        asked_alike plan vehicle timing stays stated seen (AllZip-long IsBoxOf units boxes is.boxes) is.groups is.flows is.requests ends_alike
 
   -- what is wrong with the same
   pub same_findings : (timing : Timing) (load : ℕ) (delays : List (Option Delay))

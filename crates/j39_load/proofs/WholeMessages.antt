@@ -165,7 +165,7 @@ module _ (plan : Plan) (timing : Timing) (stays : UnitPlan → Bool) where
   abbrev asked : Asked
   asked = asked_of timing plan stays
 
-  module _ (buffering : Buffering) (is_buffering : IsBuffering timing (frames_asked asked) buffering) where
+  module _ (buffering : Buffering) (is_buffering : IsBuffering timing asked.unplanned_end (frames_asked asked) buffering) where
     module _ (u late : ℕ) (load : UnitLoad) (its : get_or asked.units u None ≡ Some load) (announced sent : ℕ)
         (first : IsWaitIn timing buffering (announcements_place asked u) load.announcements (Some announced))
         (rest : IsWaitIn timing buffering (packets_place asked u) load.packets (Some sent)) where
@@ -175,9 +175,9 @@ module _ (plan : Plan) (timing : Timing) (stays : UnitPlan → Bool) where
           let p = packets_place asked u in
           let gap = bits_at_most timing timing.broadcast_gap_most in
           let counts = of_unit_load timing plan.units.items stays asked.flows u load its in
-          let announcements = sent_in_any_order timing (frames_asked asked) (all_paced timing plan stays) (all_sent timing plan stays) buffering is_buffering
+          let announcements = sent_in_any_order timing asked.unplanned_end (frames_asked asked) (all_paced timing plan stays) (all_sent timing plan stays) buffering is_buffering
           a load.announcements (announcements_read asked u load its) announced s controllers planned of legal of_announcements counts.2 first in
-          let packets = sent_in_any_order timing (frames_asked asked) (all_paced timing plan stays) (all_sent timing plan stays) buffering is_buffering
+          let packets = sent_in_any_order timing asked.unplanned_end (frames_asked asked) (all_paced timing plan stays) (all_sent timing plan stays) buffering is_buffering
           p load.packets (packets_read asked u load its) sent s controllers planned of legal of_packets counts.3 rest in
           let most : time_of_messages (announced + load.announcements.stream.bits) gap (sent + load.packets.stream.bits) messages
           ≤ turn_time timing load announced sent =
@@ -222,9 +222,9 @@ module _ (plan : Plan) (timing : Timing) (stays : UnitPlan → Bool) where
         whole s all_in_order planned of (legal_in_order s legal) (come (announcements_place asked u) of_announcements) (come (packets_place asked u) of_packets)
       where
         come : (i : ℕ) → ComeInTurn timing (frames_asked asked) s planned of i
-            → ComeInAnyOrder timing (frames_asked asked) s all_in_order planned of i
+            → ComeInAnyOrder timing asked.unplanned_end (frames_asked asked) s all_in_order planned of i
         come i turn = record {
-          known = known_in_order timing (frames_asked asked) ordered s planned of i turn.known;
+          known = known_in_order timing asked.unplanned_end (frames_asked asked) ordered s planned of i turn.known;
           behind = λ keeps. turn.behind;
           steady = λ keeps. turn.steady;
         }

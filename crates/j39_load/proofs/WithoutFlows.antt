@@ -18,6 +18,7 @@ use Rattle.j39_load.specs.Damage.{load_of_damage}
 use Rattle.j39_load.specs.LoadFindings.{flows_asked_too_often, further_findings, load_findings, overload}
 use Rattle.j39_load.specs.FlowLoads.{load_of_flow}
 use Rattle.j39_load.specs.Loads.{bits_of_second}
+use Rattle.j39_load.specs.LiveClaims.{unplanned_end}
 use Rattle.j39_load.specs.LineLists.{lines_of_each}
 use Rattle.j39_load.specs.RequestLoads.{load_of_request}
 
@@ -43,7 +44,7 @@ abbrev asked_by_both : Timing → Plan → (UnitPlan → Bool) → List FlowPlan
 asked_by_both timing plan stays flows requests =
     asked_by (map (load_of_flow timing plan stays) flows)
     (unit_loads_of timing plan.units.items stays (map (load_of_flow timing plan stays) flows))
-    (map (load_of_request timing plan.units.items stays) requests)
+    (map (load_of_request timing plan.units.items stays) requests) (unplanned_end plan)
 
 by_flows : (timing : Timing) (plan : Plan) (stays : UnitPlan → Bool) (flows : List FlowPlan) (requests : List RequestPlan) (needs : List NeedPlan)
     (delays : List (Option Delay)) → flows ≡ [] → requests ≡ [] → delays ≡ []

@@ -1,5 +1,5 @@
 -- Which frames may go before one of a unit whose controller keeps no order, and how long these wait.
-use Rattle.std.specs.Prelude.{◌≡◌, ℕ, ◌+◌, ◌*◌, ◌-◌, ◌^◌, ◌≤◌, ◌<◌, ◌==◌, if◌then◌else◌, nat_lt, Bool, true, false, not, ◌||◌, List, [], ◌∷◌, ◌++◌, length, map}
+use Rattle.std.specs.Prelude.{◌≡◌, ℕ, ◌+◌, ◌*◌, ◌-◌, ◌^◌, ◌≤◌, ◌<◌, ◌==◌, max, if◌then◌else◌, nat_lt, Bool, true, false, not, ◌||◌, List, [], ◌∷◌, ◌++◌, length, map}
 use Rattle.std.specs.Prelude.{All, Option, Some, None, IfSome, is_some, slice_index_or, unwrap_or}
 use Rattle.std.specs.Bool.{MatchBool}
 use Rattle.std.specs.List.{filter_map, range_with_len}
@@ -71,9 +71,9 @@ pub record IsQueueGroupLevel (leasts : List (Option ℕ)) (all : List (Option Fl
   pub is : IsLevel leasts all own level
   pub least : (other : ℕ) → IsLevel leasts all own other → level ≤ other
 
--- where there may be frames of no planned flow, one with any identifier may wait in a unit of the queue group
-abbrev pub with_unplanned : Timing → FlowFrames → FlowFrames
-with_unplanned timing own = record own { last_ident = if timing.unplanned == 0 then own.last_ident else 2 ^ 29 }
+-- where there may be frames of no planned flow, one of them may wait in a unit of the queue group: their identifiers are below this end
+abbrev pub with_unplanned : Timing → ℕ → FlowFrames → FlowFrames
+with_unplanned timing ends own = record own { last_ident = if timing.unplanned == 0 then own.last_ident else max own.last_ident ends }
 
 -- ---- waits
 
@@ -100,25 +100,25 @@ IsWaitWith timing demands streams blocking (Some wait) =
 IsWaitWith timing demands streams blocking None = NoShorterFits demands blocking streams (longest_wait timing + 1)
 
 -- the wait of some frames in a unit that keeps no order
-pub record IsQueueGroupWait (timing : Timing) (leasts : List (Option ℕ)) (all : List (Option FlowFrames)) (own : FlowFrames)
+pub record IsQueueGroupWait (timing : Timing) (ends : ℕ) (leasts : List (Option ℕ)) (all : List (Option FlowFrames)) (own : FlowFrames)
     (wait : Option ℕ) : Type 0 where
   pub level : ℕ
-  pub of_queue_group : IsQueueGroupLevel leasts all (with_unplanned timing own) level
+  pub of_queue_group : IsQueueGroupLevel leasts all (with_unplanned timing ends own) level
   pub least_wait :
-      IsWaitWith timing (demands_of all) (streams_with timing leasts all (with_unplanned timing own) level) (blocking_with timing own) wait
+      IsWaitWith timing (demands_of all) (streams_with timing leasts all (with_unplanned timing ends own) level) (blocking_with timing own) wait
 
 -- ---- buffering delays (Davis, Navet, 2012): until when frames are buffered; where their units keep order, until they are ready
 
 -- for how many bits frames are buffered at most, among all
-abbrev pub IsBufferedFor : Timing → List (Option FlowFrames) → Option FlowFrames → Option ℕ → Type 0
-IsBufferedFor timing all None wait = wait ≡ Some 0
-IsBufferedFor timing all (Some frames) wait =
-    MatchBool (keep_order frames) (wait ≡ Some 0) (IsQueueGroupWait timing (leasts_of all) all frames wait)
+abbrev pub IsBufferedFor : Timing → ℕ → List (Option FlowFrames) → Option FlowFrames → Option ℕ → Type 0
+IsBufferedFor timing ends all None wait = wait ≡ Some 0
+IsBufferedFor timing ends all (Some frames) wait =
+    MatchBool (keep_order frames) (wait ≡ Some 0) (IsQueueGroupWait timing ends (leasts_of all) all frames wait)
 
 -- at their places, of all frames
-pub record AreBufferingDelays (timing : Timing) (all : List (Option FlowFrames)) (waits : List (Option ℕ)) : Type 0 where
+pub record AreBufferingDelays (timing : Timing) (ends : ℕ) (all : List (Option FlowFrames)) (waits : List (Option ℕ)) : Type 0 where
   pub count : length waits ≡ length all
-  pub each : (j : ℕ) → j < length all → IsBufferedFor timing all (slice_index_or all j None) (slice_index_or waits j None)
+  pub each : (j : ℕ) → j < length all → IsBufferedFor timing ends all (slice_index_or all j None) (slice_index_or waits j None)
 
 -- the same frames, so many bits later
 abbrev pub later_frames : ℕ → FlowFrames → FlowFrames
@@ -152,8 +152,8 @@ pub record Buffering : Type 0 where
   -- the least identifier of those of which it isn't
   pub least_unbounded : Option ℕ
 
-pub record IsBuffering (timing : Timing) (all : List (Option FlowFrames)) (buffering : Buffering) : Type 0 where
-  pub bounded : AreBufferingDelays timing all buffering.waits
+pub record IsBuffering (timing : Timing) (ends : ℕ) (all : List (Option FlowFrames)) (buffering : Buffering) : Type 0 where
+  pub bounded : AreBufferingDelays timing ends all buffering.waits
   pub frames : buffering.frames ≡ buffered buffering.waits all
   pub least_unbounded : buffering.least_unbounded ≡ least_unbounded buffering.waits all
 

@@ -15,6 +15,7 @@ use Rattle.j39_load.specs.declared.loads.unit_load.UnitLoad.{UnitLoad}
 use Rattle.j39_load.specs.Broadcasts.{unit_loads_of}
 use Rattle.j39_load.specs.Damage.{load_of_damage}
 use Rattle.j39_load.specs.FlowLoads.{loads_of}
+use Rattle.j39_load.specs.LiveClaims.{unplanned_end}
 use Rattle.j39_load.specs.RequestLoads.{request_loads_of}
 
 pub record Asked : Type 0 where
@@ -24,14 +25,16 @@ pub record Asked : Type 0 where
   pub units : List (Option UnitLoad)
   -- of each request, in order, where it is known how often it is sent
   pub requests : List (Option RequestLoad)
+  -- what isn't planned has identifiers below this number
+  pub unplanned_end : ℕ
 
-abbrev pub asked_by : List (Option FlowLoad) → List (Option UnitLoad) → List (Option RequestLoad) → Asked
-asked_by flows units requests = record { flows = flows; units = units; requests = requests }
+abbrev pub asked_by : List (Option FlowLoad) → List (Option UnitLoad) → List (Option RequestLoad) → ℕ → Asked
+asked_by flows units requests ends = record { flows = flows; units = units; requests = requests; unplanned_end = ends }
 
 abbrev pub asked_of : Timing → Plan → (UnitPlan → Bool) → Asked
 asked_of timing plan stays =
     asked_by (loads_of timing plan stays) (unit_loads_of timing plan.units.items stays (loads_of timing plan stays))
-    (request_loads_of timing plan stays)
+    (request_loads_of timing plan stays) (unplanned_end plan)
 
 -- in place of frames of its own, which a flow with long messages to all has none of, what it wants of its unit's
 abbrev pub wanting : Broadcast → FlowFrames

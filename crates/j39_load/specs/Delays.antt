@@ -219,7 +219,7 @@ HasDelayBy timing asked buffering flow (Some delay) =
 -- by all frames at the end of their buffering delays
 abbrev pub HasDelay : Timing → Asked → ℕ → Option Delay → Type 0
 HasDelay timing asked flow delay =
-    (buffering : Buffering) × IsBuffering timing (frames_asked asked) buffering × HasDelayBy timing asked buffering flow delay
+    (buffering : Buffering) × IsBuffering timing asked.unplanned_end (frames_asked asked) buffering × HasDelayBy timing asked buffering flow delay
 
 -- each flow has the delay that stands at its place
 pub record AreFlowDelays (timing : Timing) (asked : Asked) (delays : List (Option Delay)) : Type 0 where

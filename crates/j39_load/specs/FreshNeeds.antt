@@ -31,7 +31,7 @@ IsFreshOnEveryBus timing asked flow pause stream wait delay = (s : Schedule) (pl
 -- the same where units keep order or don't
 abbrev pub IsFreshInAnyOrder : Timing → Asked → ℕ → ℕ → Stream → ℕ → ℕ → Type 0
 IsFreshInAnyOrder timing asked flow pause stream wait delay = (s : Schedule) (controllers : Controllers) (planned : ℕ → Bool) (of : Origins)
-    → IsLegalInAnyOrder s controllers → AreFramesInAnyOrder timing (frames_asked asked) s controllers planned of flow → (from to : ℕ)
+    → IsLegalInAnyOrder s controllers → AreFramesInAnyOrder timing asked.unplanned_end (frames_asked asked) s controllers planned of flow → (from to : ℕ)
     → KeepsComing s planned of flow pause from to → to + (stream.jitter + wait) < s.now
     → IsFresh s planned of flow (pause + delay) (from + delay) (to + delay)
 

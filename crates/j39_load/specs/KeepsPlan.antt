@@ -12,6 +12,7 @@ use Rattle.j39_network.specs.declared.plan.timing.Timing.{Timing}
 use Rattle.j39_network.specs.declared.plan.unit_plan.UnitPlan.{UnitPlan}
 use Rattle.j39_load.specs.KeepsAnswers.{KeepsAnswers}
 use Rattle.j39_load.specs.KeepsBroadcasts.{KeepsBroadcasts}
+use Rattle.j39_load.specs.LiveClaims.{unplanned_end}
 use Rattle.j39_load.specs.Ranks.{AreHeldApart, AreHeldByPlan}
 use Rattle.j39_load.specs.SentFrames.{FrameSources, HasTime, Held, IsFrameOf, IsMsBefore, IsMsBehind, IsSentByUnit, IsSentEvery, IsWithinMs, Part, Source}
 use Rattle.j39_load.specs.SentFrames.{HasOwnIdentifier, TakesPart}
@@ -54,8 +55,8 @@ pub record KeepsQueues (plan : Plan) (timing : Timing) (s : Schedule) (controlle
   -- a frame is sent by its own unit, and one with `queue = "priority"` keeps order
   pub sender : (p u : ℕ) → p < s.count → planned p ≡ true → IsSentByUnit plan (sent.source p) u → controllers.unit p ≡ u
   pub order : (u : ℕ) (unit : UnitPlan) → slice_get plan.units.items u ≡ Some unit → unit.queue ≡ Priority → controllers.keeps_order u ≡ true
-  -- an identifier has 29 bits
-  pub identifiers : (p : ℕ) → p < s.count → s.ident p < 2 ^ 29
+  -- what isn't planned has an identifier of 29 bits, and that of a claim or of a request at most where no other frames are foreseen
+  pub identifiers : (p : ℕ) → p < s.count → planned p ≡ false → s.ident p < unplanned_end plan
   -- while a frame of a message is queued in which one with `queue = "any"` takes part, one that isn't planned has another identifier
   pub others_apart : (p q t u : ℕ) (unit : UnitPlan) → p < s.count → q < s.count → t < s.now → planned p ≡ true → planned q ≡ false
       → TakesPart plan (sent.source p) u → slice_get plan.units.items u ≡ Some unit → unit.queue ≡ Any

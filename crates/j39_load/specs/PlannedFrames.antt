@@ -69,16 +69,16 @@ AreFramesOfPlan timing all s planned of i = IsPlannedTraffic s (traffic_of (all 
 -- ---- units that keep no order
 
 -- all streams of the queue group of some frames among all, with identifiers up to a level
-abbrev pub queue_group_of : Timing → List (Option FlowFrames) → FlowFrames → ℕ → QueueGroup
-queue_group_of timing all own level = record {
-  has = λ j. is_of_queue_group (leasts_of all) (with_unplanned timing own) level (planned_at all j);
+abbrev pub queue_group_of : Timing → ℕ → List (Option FlowFrames) → FlowFrames → ℕ → QueueGroup
+queue_group_of timing ends all own level = record {
+  has = λ j. is_of_queue_group (leasts_of all) (with_unplanned timing ends own) level (planned_at all j);
   level = level;
 }
 
 -- what is asked of a bus while frames of a queue group wait
-pub record KeepToQueueGroup (timing : Timing) (s : Schedule) (planned : ℕ → Bool) (of : Origins) (queue_group : QueueGroup) : Type 0 where
-  -- an identifier has 29 bits
-  pub identifiers : (p : ℕ) → p < s.count → s.ident p < 2 ^ 29
+pub record KeepToQueueGroup (timing : Timing) (ends : ℕ) (s : Schedule) (planned : ℕ → Bool) (of : Origins) (queue_group : QueueGroup) : Type 0 where
+  -- what isn't planned has an identifier below this end
+  pub identifiers : (p : ℕ) → p < s.count → planned p ≡ false → s.queued p < s.now → s.ident p < ends
   -- while a frame of the queue group is queued, nothing that is queued too has its identifier but frames of the queue group
   pub own_identifiers : (p q t : ℕ) → p < s.count → q < s.count → t < s.now → planned p ≡ true → queue_group.has (of.source p) ≡ true
       → IsQueuedAt s p t → IsQueuedAt s q t → s.ident p ≡ s.ident q → (planned q ≡ true) × (queue_group.has (of.source q) ≡ true)
@@ -88,7 +88,7 @@ pub record KeepToQueueGroup (timing : Timing) (s : Schedule) (planned : ℕ → 
       → QueueGroupWaits s planned of queue_group from to → unplanned_queued s planned from to ≤ timing.unplanned
 
 -- the planned frames are those of the plan's streams, and of its units
-pub record AreFramesInAnyOrder (timing : Timing) (all : List (Option FlowFrames)) (s : Schedule) (controllers : Controllers)
+pub record AreFramesInAnyOrder (timing : Timing) (ends : ℕ) (all : List (Option FlowFrames)) (s : Schedule) (controllers : Controllers)
     (planned : ℕ → Bool) (of : Origins) (i : ℕ) : Type 0 where
   -- as where all units keep order
   pub known : AreFramesOfPlan timing all s planned of i
@@ -101,8 +101,8 @@ pub record AreFramesInAnyOrder (timing : Timing) (all : List (Option FlowFrames)
       → s.ident p ≤ (planned_at all (of.source p)).last_ident
   -- where a stream of such a unit is the one that is judged, or may go before it, the bus keeps to its queue group
   pub queue_groups : (j level : ℕ) → (j ≡ i) ⊎ ((planned_at all j).least_ident < (planned_at all i).greatest_ident)
-      → keep_order (planned_at all j) ≡ false → IsQueueGroupLevel (leasts_of all) all (with_unplanned timing (planned_at all j)) level
-      → KeepToQueueGroup timing s planned of (queue_group_of timing all (planned_at all j) level)
+      → keep_order (planned_at all j) ≡ false → IsQueueGroupLevel (leasts_of all) all (with_unplanned timing ends (planned_at all j)) level
+      → KeepToQueueGroup timing ends s planned of (queue_group_of timing ends all (planned_at all j) level)
 
 -- every unit keeps order
 abbrev pub AreAllOrdered : List (Option FlowFrames) → Type 0
@@ -117,9 +117,9 @@ IsInTimeOnEveryBus timing all i frames wait = (s : Schedule) (planned : ℕ → 
     → AreFramesOfPlan timing all s planned of i → IsStreamInTime s planned of i frames.stream wait
 
 -- the same where units keep order or don't
-abbrev pub IsInTimeInAnyOrder : Timing → List (Option FlowFrames) → ℕ → FlowFrames → ℕ → Type 0
-IsInTimeInAnyOrder timing all i frames wait = (s : Schedule) (controllers : Controllers) (planned : ℕ → Bool) (of : Origins)
-    → IsLegalInAnyOrder s controllers → AreFramesInAnyOrder timing all s controllers planned of i
+abbrev pub IsInTimeInAnyOrder : Timing → ℕ → List (Option FlowFrames) → ℕ → FlowFrames → ℕ → Type 0
+IsInTimeInAnyOrder timing ends all i frames wait = (s : Schedule) (controllers : Controllers) (planned : ℕ → Bool) (of : Origins)
+    → IsLegalInAnyOrder s controllers → AreFramesInAnyOrder timing ends all s controllers planned of i
     → IsStreamInTime s planned of i frames.stream wait
 
 -- the flow's messages go in one frame, and its delay is reported by the least wait that has room; this is within its limit, and bounds its
@@ -133,9 +133,9 @@ pub record IsBounded (timing : Timing) (asked : Asked) (flow bits : ℕ) : Type 
   pub sum : bits ≡ delay_of frames.stream wait
   pub inside : bits ≤ load.limit
   pub buffering : Buffering
-  pub is : IsBuffering timing (frames_asked asked) buffering
+  pub is : IsBuffering timing asked.unplanned_end (frames_asked asked) buffering
   pub delayed : IsFrameDelay timing buffering flow frames load.limit (Within bits)
-  pub in_any_order : IsInTimeInAnyOrder timing (frames_asked asked) flow frames wait
+  pub in_any_order : IsInTimeInAnyOrder timing asked.unplanned_end (frames_asked asked) flow frames wait
   pub bounds : AreAllOrdered (frames_asked asked) → IsInTimeOnEveryBus timing (frames_asked asked) flow frames wait
 
 -- the flow's messages go in one frame, and its delay is above a deadline that is written, and within its period; it bounds its frames' time on
@@ -149,7 +149,7 @@ pub record IsBoundedBeyond (timing : Timing) (asked : Asked) (flow bits : ℕ) :
   pub sum : bits ≡ delay_of frames.stream wait
   pub beyond : load.limit < bits
   pub inside : bits ≤ frames.stream.period
-  pub in_any_order : IsInTimeInAnyOrder timing (frames_asked asked) flow frames wait
+  pub in_any_order : IsInTimeInAnyOrder timing asked.unplanned_end (frames_asked asked) flow frames wait
   pub bounds : AreAllOrdered (frames_asked asked) → IsInTimeOnEveryBus timing (frames_asked asked) flow frames wait
 
 -- each delay that is reported is a bound
@@ -179,9 +179,9 @@ pub record ComeInTurn (timing : Timing) (all : List (Option FlowFrames)) (s : Sc
   pub steady : AreSteady s planned of i
 
 -- the same where units keep order or don't: of a unit that keeps none it isn't asked how its frames come
-pub record ComeInAnyOrder (timing : Timing) (all : List (Option FlowFrames)) (s : Schedule) (controllers : Controllers)
+pub record ComeInAnyOrder (timing : Timing) (ends : ℕ) (all : List (Option FlowFrames)) (s : Schedule) (controllers : Controllers)
     (planned : ℕ → Bool) (of : Origins) (i : ℕ) : Type 0 where
-  pub known : AreFramesInAnyOrder timing all s controllers planned of i
+  pub known : AreFramesInAnyOrder timing ends all s controllers planned of i
   pub behind : keep_order (planned_at all i) ≡ true → AreQueuedBehind s planned of i
   pub steady : keep_order (planned_at all i) ≡ true → AreSteady s planned of i
 
@@ -215,8 +215,8 @@ AreWholeOnEveryBus timing asked u jitter bits = (s : Schedule) (planned : ℕ �
 abbrev pub AreWholeInAnyOrder : Timing → Asked → ℕ → ℕ → ℕ → Type 0
 AreWholeInAnyOrder timing asked u jitter bits = (s : Schedule) (controllers : Controllers) (planned : ℕ → Bool)
     (of : Origins) → IsLegalInAnyOrder s controllers
-    → ComeInAnyOrder timing (frames_asked asked) s controllers planned of (announcements_place asked u)
-    → ComeInAnyOrder timing (frames_asked asked) s controllers planned of (packets_place asked u)
+    → ComeInAnyOrder timing asked.unplanned_end (frames_asked asked) s controllers planned of (announcements_place asked u)
+    → ComeInAnyOrder timing asked.unplanned_end (frames_asked asked) s controllers planned of (packets_place asked u)
     → (messages : List LongMessage) (release : ℕ) → IsOneTurn (broadcasts_by u asked.flows) messages
     → All (IsBroadcast s planned of (announcements_place asked u) (packets_place asked u)) messages
     → AreSentInTurn s (bits_at_most timing timing.broadcast_gap_most) (release + jitter) messages → release + bits < s.now
@@ -229,7 +229,7 @@ pub record AreWholeWithin (timing : Timing) (asked : Asked) (flow : ℕ) (whole 
   pub broadcast : Broadcast
   pub long : load.messages ≡ ToAll broadcast
   pub buffering : Buffering
-  pub is : IsBuffering timing (frames_asked asked) buffering
+  pub is : IsBuffering timing asked.unplanned_end (frames_asked asked) buffering
   pub time : IsWholeTime timing asked buffering broadcast whole
   pub stated : whole.bits ≡ Some bits
   pub in_any_order : AreWholeInAnyOrder timing asked broadcast.sender broadcast.jitter bits

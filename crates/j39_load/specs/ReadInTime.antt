@@ -83,7 +83,7 @@ AreReadOnEveryBus timing asked flow group pause stream wait delay = (s : Schedul
 -- the same where units keep order or don't
 abbrev pub AreReadInAnyOrder : Timing → Asked → ℕ → GroupPlan → ℕ → Stream → ℕ → ℕ → Type 0
 AreReadInAnyOrder timing asked flow group pause stream wait delay = (s : Schedule) (controllers : Controllers) (planned : ℕ → Bool) (of : Origins)
-    → IsLegalInAnyOrder s controllers → AreFramesInAnyOrder timing (frames_asked asked) s controllers planned of flow
+    → IsLegalInAnyOrder s controllers → AreFramesInAnyOrder timing asked.unplanned_end (frames_asked asked) s controllers planned of flow
     → (bytes : ℕ → List ℕ) (written : CarryWritten s planned of flow group bytes) (from to : ℕ) → KeepsComing s planned of flow pause from to
     → to + (stream.jitter + wait) < s.now
     → AreReadYoung s planned of flow group bytes written (pause + delay) (from + delay) (to + delay)

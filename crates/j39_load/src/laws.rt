@@ -33,6 +33,7 @@ ghost use Rattle.j39_load.specs.KeptTogether.{CanBeKeptTogether, CanSendAll};
 ghost use Rattle.j39_load.specs.KeptWithout.{CanBeKeptWithout};
 ghost use Rattle.j39_load.specs.Delays.{announcements_place, packets_place};
 ghost use Rattle.j39_load.specs.LoadFindings.{AreLoadFindings, AsksOfBus, load_findings};
+ghost use Rattle.j39_load.specs.LiveClaims.{unplanned_end};
 ghost use Rattle.j39_load.specs.LongRuns.{IsLongRunLoad};
 ghost use Rattle.j39_load.specs.Clocks.{shortest_million};
 ghost use Rattle.j39_load.specs.Loads.{bits_at_least, bits_at_most, bits_inside, bits_of_ms, frames_to_all};
@@ -164,7 +165,7 @@ pub fn frames_that_keep_a_plan()
         → IsSingleFlow plan i
         → IsLegalInAnyOrder s controllers → KeepsToPlan plan timing s planned sent held
         → KeepsQueues plan timing s controllers planned sent
-        → AreFramesInAnyOrder timing (frames_asked (asked_of timing plan stays)) s controllers planned (origins_of plan sent) i }
+        → AreFramesInAnyOrder timing (unplanned_end plan) (frames_asked (asked_of timing plan stays)) s controllers planned (origins_of plan sent) i }
     ensures with_errors { (plan : Plans) (timing : Timings) (stays : PlannedUnits → Bool) → Clean plan
         → DecidesWhoStays plan stays
         → (s : Schedule) (d : Damaged) (planned : ℕ
@@ -192,9 +193,9 @@ pub fn broadcasts_that_keep_a_plan()
         → IsLegalInAnyOrder s controllers → KeepsToPlan plan timing s planned sent held
         → KeepsQueues plan timing s controllers planned sent
         → KeepsTurns s planned sent held
-        → ComeInAnyOrder timing (frames_asked (asked_of timing plan stays)) s controllers planned (origins_of plan sent)
+        → ComeInAnyOrder timing (unplanned_end plan) (frames_asked (asked_of timing plan stays)) s controllers planned (origins_of plan sent)
         (announcements_place (asked_of timing plan stays) u)
-        × ComeInAnyOrder timing (frames_asked (asked_of timing plan stays)) s controllers planned (origins_of plan sent)
+        × ComeInAnyOrder timing (unplanned_end plan) (frames_asked (asked_of timing plan stays)) s controllers planned (origins_of plan sent)
         (packets_place (asked_of timing plan stays) u) }
 {}
 

@@ -2,8 +2,12 @@
 ghost use Rattle.std.specs.Prelude.{◌≡◌, ◌≤◌, ◌+◌, length};
 ghost use Rattle.j39_id.specs.Limits.{unit_limit};
 ghost use Rattle.j39_load.specs.BusTimes.{timing_of, with_claims};
-ghost use Rattle.j39_load.specs.LiveClaims.{claiming, claims_stated};
+ghost use Rattle.j39_load.specs.LiveClaims.{claiming, claims_alone, claims_stated, unplanned_end};
 
+use crate::frames::IDENT_END;
+use j39_id::Ident;
+use j39_id::addresses::{GLOBAL_ADDRESS, NULL_ADDRESS};
+use j39_id::services::{ADDRESS_CLAIMED, CLAIM_PRIORITY};
 use j39_network::{Plan, Timing, UnitPlan};
 
 // How many of the units claim.
@@ -27,6 +31,29 @@ fn claims_stated(plan: &Plan) -> u16
     ensures few { result ≤ 249 }
 {
     claiming(plan.units.as_slice()) + u16::from(plan.strangers) + 1
+}
+
+// No frame is foreseen that isn't planned but claims and requests for them.
+fn claims_alone(plan: &Plan) -> bool
+    ensures { result ≡ claims_alone plan.now }
+{
+    match plan.timing {
+        Some(timing) => plan.live && timing.unplanned == 0,
+        None => false,
+    }
+}
+
+/// What isn't planned has identifiers below this number: where only claims and requests for them come, the greatest is
+/// that of a unit that could claim no address.
+pub(crate) fn unplanned_end(plan: &Plan) -> u64
+    ensures { result ≡ unplanned_end plan.now }
+{
+    if claims_alone(plan) {
+        let number = ADDRESS_CLAIMED.number();
+        Ident::number_of(CLAIM_PRIORITY, number, GLOBAL_ADDRESS, NULL_ADDRESS) + 1
+    } else {
+        IDENT_END
+    }
 }
 
 // With these among the frames that aren't planned, where the plan is live.

@@ -20,6 +20,7 @@ mod unit_load;
 
 use crate::frames::{PlannedBus, load_of_damage};
 pub use answers::{answered_within, askers_of};
+use crate::live_claims::unplanned_end;
 use broadcasts::unit_loads_of;
 pub use flow_load::FlowLoad;
 use flow_loads::loads_of;
@@ -73,6 +74,8 @@ pub struct Loads {
     pub units: Vec<Option<UnitLoad>>,
     /// What each request asks, in order: nothing where it isn't known how often it is sent.
     pub requests: Vec<Option<RequestLoad>>,
+    /// What isn't planned has identifiers below this number.
+    pub unplanned_end: u64,
     pub ghost count: { length flows.items ≤ flow_limit },
     pub ghost unit_count: { length units.items ≤ unit_limit },
     pub ghost request_count: { length requests.items ≤ request_limit },
@@ -106,6 +109,7 @@ impl Loads {
             flows,
             units,
             requests,
+            unplanned_end: unplanned_end(plan),
         })
     }
 

@@ -1,5 +1,5 @@
 -- Frames of units that keep no order wait no longer in a part.
-use Rattle.std.proofs.Common.{◌≡◌, ◌≢◌, ◌⊎◌, ℕ, ◌+◌, ◌^◌, ◌<◌, ◌≤◌, min, Bool, true, false, ◌||◌, ◌==◌, nat_lt, if◌then◌else◌, get_or}
+use Rattle.std.proofs.Common.{◌≡◌, ◌≢◌, ◌⊎◌, ℕ, ◌+◌, ◌^◌, ◌<◌, ◌≤◌, max, min, Bool, true, false, ◌||◌, ◌==◌, nat_lt, if◌then◌else◌, get_or}
 use Rattle.std.proofs.Common.{List, [], ◌∷◌, Option, Some, None, option_map, refl, sym, ◌∙◌, ap, subst, inl, inr, arith, slice_index_or}
 use Rattle.std.specs.Bool.{MatchBool}
 use Rattle.std.specs.List.{filter_map}
@@ -77,9 +77,9 @@ module _ (unit : ℕ → ℕ) (Twins : ℕ → ℕ → Type 0) (one_twin : (m n 
       get_or_past (leasts_of all) u None (omega (arith, size, above))
 
   -- the same frames, where the last identifier counts that unplanned ones may have
-  unplanned_alike : (timing : Timing) (unplanned : ℕ) (range : unplanned ≤ 1000) (busier : timing.unplanned ≤ unplanned) (x y : FlowFrames)
-      → AreFrames unit Twins x y → AreFrames unit Twins (with_unplanned timing x) (with_unplanned (counting timing unplanned range) y)
-  unplanned_alike timing unplanned range busier x y are = record {
+  unplanned_alike : (ends : ℕ) (timing : Timing) (unplanned : ℕ) (range : unplanned ≤ 1000) (busier : timing.unplanned ≤ unplanned) (x y : FlowFrames)
+      → AreFrames unit Twins x y → AreFrames unit Twins (with_unplanned timing ends x) (with_unplanned (counting timing unplanned range) ends y)
+  unplanned_alike ends timing unplanned range busier x y are = record {
     frames = are.frames;
     bits = are.bits;
     positive = are.positive;
@@ -88,7 +88,6 @@ module _ (unit : ℕ → ℕ) (Twins : ℕ → ℕ → Type 0) (one_twin : (m n 
     least = are.least;
     greatest = are.greatest;
     last = either (cases_eq unplanned 0);
-    below = at_most (timing.unplanned == 0);
     sender = are.sender;
     receiver = are.receiver;
     few_sender = are.few_sender;
@@ -97,12 +96,12 @@ module _ (unit : ℕ → ℕ) (Twins : ℕ → ℕ → Type 0) (one_twin : (m n 
     want = are.want;
   }
     where
-      at_most : (b : Bool) → (if b then x.last_ident else 2 ^ 29) ≤ 2 ^ 29
-      at_most true = are.below
-      at_most false = omega arith
+      at_most : (b : Bool) → (if b then x.last_ident else max x.last_ident ends) ≤ max y.last_ident ends
+      at_most true = let last = are.last in omega (arith, last)
+      at_most false = let last = are.last in omega (arith, last)
 
       either : (unplanned ≡ 0) ⊎ (unplanned ≢ 0)
-          → (if timing.unplanned == 0 then x.last_ident else 2 ^ 29) ≤ (if unplanned == 0 then y.last_ident else 2 ^ 29)
+          → (if timing.unplanned == 0 then x.last_ident else max x.last_ident ends) ≤ (if unplanned == 0 then y.last_ident else max y.last_ident ends)
       either (inl none) =
           let neither : timing.unplanned ≡ 0 = omega (arith, none, busier) in
           rw (eq-eqb timing.unplanned 0 neither, eq-eqb unplanned 0 none) are.last
@@ -234,23 +233,23 @@ module _ (unit : ℕ → ℕ) (Twins : ℕ → ℕ → Type 0) (one_twin : (m n 
 
     -- ---- waits
 
-    group_wait : (own there : FlowFrames) → AreFrames unit Twins own there → (wait : Option ℕ) (b : ℕ)
-        → IsQueueGroupWait timing (leasts_of all) all own wait → IsQueueGroupWait busy (leasts_of others) others there (Some b)
+    group_wait : (ends : ℕ) (own there : FlowFrames) → AreFrames unit Twins own there → (wait : Option ℕ) (b : ℕ)
+        → IsQueueGroupWait timing ends (leasts_of all) all own wait → IsQueueGroupWait busy ends (leasts_of others) others there (Some b)
         → (a : ℕ) × (wait ≡ Some a) × (a ≤ b)
-    group_wait own there are_own wait b here whole =
-        let alike = unplanned_alike timing unplanned range busier own there are_own in
+    group_wait ends own there are_own wait b here whole =
+        let alike = unplanned_alike ends timing unplanned range busier own there are_own in
         let up = here.of_queue_group.least whole.level
-        (level_here (with_unplanned timing own) (with_unplanned busy there) alike whole.level whole.of_queue_group.is) in
-        let bound = waits_there (with_unplanned timing own) (with_unplanned busy there) alike here.level whole.level up in
+        (level_here (with_unplanned timing ends own) (with_unplanned busy ends there) alike whole.level whole.of_queue_group.is) in
+        let bound = waits_there (with_unplanned timing ends own) (with_unplanned busy ends there) alike here.level whole.level up in
         let fits = whole.least_wait in
         go wait here.least_wait bound fits
       where
         go : (w : Option ℕ)
-            → IsWaitWith timing (demands_of all) (streams_with timing (leasts_of all) all (with_unplanned timing own) here.level) (blocking_with timing own) w
+            → IsWaitWith timing (demands_of all) (streams_with timing (leasts_of all) all (with_unplanned timing ends own) here.level) (blocking_with timing own) w
             → WaitNoLonger (demands_of all) (demands_of others) (blocking_with timing own) (blocking_with busy there)
-            (streams_with timing (leasts_of all) all (with_unplanned timing own) here.level)
-            (streams_with busy (leasts_of others) others (with_unplanned busy there) whole.level)
-            → IsWaitWith busy (demands_of others) (streams_with busy (leasts_of others) others (with_unplanned busy there) whole.level)
+            (streams_with timing (leasts_of all) all (with_unplanned timing ends own) here.level)
+            (streams_with busy (leasts_of others) others (with_unplanned busy ends there) whole.level)
+            → IsWaitWith busy (demands_of others) (streams_with busy (leasts_of others) others (with_unplanned busy ends there) whole.level)
             (blocking_with busy there) (Some b)
             → (a : ℕ) × (w ≡ Some a) × (a ≤ b)
         go None none bound fits =
@@ -259,16 +258,16 @@ module _ (unit : ℕ → ℕ) (Twins : ℕ → ℕ → Type 0) (one_twin : (m n 
             absurd (omega (arith, above, short))
         go (Some a) is_a bound fits = (a, refl, bound.least a b is_a.2 fits.1)
 
-    pub buffered_no_longer : (x y : Option FlowFrames) → AreFramesWhere unit Twins Always x y → (wait : Option ℕ) (b : ℕ) → IsBufferedFor timing all x wait
-        → IsBufferedFor busy others y (Some b) → (a : ℕ) × (wait ≡ Some a) × (a ≤ b)
-    buffered_no_longer None y alike wait b here whole = (0, here, omega arith)
-    buffered_no_longer (Some x) None alike wait b here whole = absurd alike
-    buffered_no_longer (Some x) (Some y) alike wait b here whole = elim (cases_Bool (keep_order x)) [
+    pub buffered_no_longer : (ends : ℕ) (x y : Option FlowFrames) → AreFramesWhere unit Twins Always x y → (wait : Option ℕ) (b : ℕ) → IsBufferedFor timing ends all x wait
+        → IsBufferedFor busy ends others y (Some b) → (a : ℕ) × (wait ≡ Some a) × (a ≤ b)
+    buffered_no_longer ends None y alike wait b here whole = (0, here, omega arith)
+    buffered_no_longer ends (Some x) None alike wait b here whole = absurd alike
+    buffered_no_longer ends (Some x) (Some y) alike wait b here whole = elim (cases_Bool (keep_order x)) [
       | inl ordered ↦
-          (0, subst (λ t. MatchBool t (wait ≡ Some 0) (IsQueueGroupWait timing (leasts_of all) all x wait)) ordered here, omega arith)
+          (0, subst (λ t. MatchBool t (wait ≡ Some 0) (IsQueueGroupWait timing ends (leasts_of all) all x wait)) ordered here, omega arith)
       | inr unordered ↦
-          group_wait x y alike.0 wait b
-          (subst (λ t. MatchBool t (wait ≡ Some 0) (IsQueueGroupWait timing (leasts_of all) all x wait)) unordered here)
-          (subst (λ t. MatchBool t (Some b ≡ Some 0) (IsQueueGroupWait busy (leasts_of others) others y (Some b)))
+          group_wait ends x y alike.0 wait b
+          (subst (λ t. MatchBool t (wait ≡ Some 0) (IsQueueGroupWait timing ends (leasts_of all) all x wait)) unordered here)
+          (subst (λ t. MatchBool t (Some b ≡ Some 0) (IsQueueGroupWait busy ends (leasts_of others) others y (Some b)))
           (same_order unit Twins one_twin x y alike.0 ∙ unordered) whole)
     ]

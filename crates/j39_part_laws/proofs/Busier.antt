@@ -21,6 +21,7 @@ use Rattle.j39_load.specs.Loads.{flow_load, has_short, is_always_short, limit_by
 use Rattle.j39_load.specs.AnswerStreams.{askers_of, frames_for, load_for, messages_for}
 use Rattle.j39_load.specs.FlowLoads.{asked_load, load_of_flow, loads_of}
 use Rattle.j39_load.specs.declared.frames.flow_frames.FlowFrames.{FlowFrames}
+use Rattle.j39_load.specs.LiveClaims.{unplanned_end}
 use Rattle.j39_load.specs.RequestLoads.{load_of_request, request_load, request_loads_of}
 use Rattle.j39_part_laws.specs.PartLoads.{counting}
 
@@ -132,6 +133,8 @@ module _ (timing : Timing) (unplanned : ℕ) (range : unplanned ≤ 1000) where
 
     pub same_asked : asked_of busy plan stays ≡ asked_of timing plan stays
     same_asked =
-        ap (λ l. asked_by l (unit_loads_of busy plan.units.items stays l) (request_loads_of busy plan stays)) same_loads
-        ∙ ap (λ l. asked_by (loads_of timing plan stays) l (request_loads_of busy plan stays)) (same_units plan.units.items stays (loads_of timing plan stays))
-        ∙ ap (asked_by (loads_of timing plan stays) (unit_loads_of timing plan.units.items stays (loads_of timing plan stays))) same_requests
+        ap (λ l. asked_by l (unit_loads_of busy plan.units.items stays l) (request_loads_of busy plan stays) (unplanned_end plan)) same_loads
+        ∙ ap (λ l. asked_by (loads_of timing plan stays) l (request_loads_of busy plan stays) (unplanned_end plan))
+        (same_units plan.units.items stays (loads_of timing plan stays))
+        ∙ ap (λ l. asked_by (loads_of timing plan stays) (unit_loads_of timing plan.units.items stays (loads_of timing plan stays)) l (unplanned_end plan))
+        same_requests

@@ -35,7 +35,7 @@ same_length waits all = one_each (λ (p : ℕ) (x : Option FlowFrames). option_m
 module _ (unit : ℕ → ℕ) (Twins : ℕ → ℕ → Type 0) (one_twin : (m n o : ℕ) → Twins m n → Twins m o → n ≡ o)
     (timing : Timing) (unplanned : ℕ) (range : unplanned ≤ 1000) (busier : timing.unplanned ≤ unplanned) (all others : List (Option FlowFrames)) (place : ℕ → ℕ)
     (are : AreSome place (AreFramesWhere unit Twins (Always unit Twins one_twin)) all others)
-    (vs ws : List (Option ℕ)) (here : AreBufferingDelays timing all vs) (whole : AreBufferingDelays (counting timing unplanned range) others ws) where
+    (ends : ℕ) (vs ws : List (Option ℕ)) (here : AreBufferingDelays timing ends all vs) (whole : AreBufferingDelays (counting timing unplanned range) ends others ws) where
   abbrev busy : Timing
   busy = counting timing unplanned range
 
@@ -51,9 +51,9 @@ module _ (unit : ℕ → ℕ) (Twins : ℕ → ℕ → Type 0) (one_twin : (m n 
       let is_y : slice_index_or others (place j) None ≡ there.value = get_or_from_slice_get others (place j) there.value None there.value_is in
       let wait = here.each j (slice_get_within all j x at) in
       let longer = whole.each (place j) (slice_get_within others (place j) there.value there.value_is) in
-      buffered_no_longer unit Twins one_twin timing unplanned range busier all others place are x there.value there.meets (slice_index_or vs j None) b
-      (subst (λ o. IsBufferedFor timing all o (slice_index_or vs j None)) is_x wait)
-      (subst (λ w. IsBufferedFor busy others there.value w) known (subst (λ o. IsBufferedFor busy others o (slice_index_or ws (place j) None)) is_y longer))
+      buffered_no_longer unit Twins one_twin timing unplanned range busier all others place are ends x there.value there.meets (slice_index_or vs j None) b
+      (subst (λ o. IsBufferedFor timing ends all o (slice_index_or vs j None)) is_x wait)
+      (subst (λ w. IsBufferedFor busy ends others there.value w) known (subst (λ o. IsBufferedFor busy ends others o (slice_index_or ws (place j) None)) is_y longer))
 
   -- ---- those of which no wait is known
 
@@ -128,7 +128,6 @@ module _ (unit : ℕ → ℕ) (Twins : ℕ → ℕ → Type 0) (one_twin : (m n 
     least = alike.least;
     greatest = alike.greatest;
     last = alike.last;
-    below = alike.below;
     sender = alike.sender;
     receiver = alike.receiver;
     few_sender = alike.few_sender;
@@ -147,9 +146,9 @@ module _ (unit : ℕ → ℕ) (Twins : ℕ → ℕ → Type 0) (one_twin : (m n 
     known_ordered : (k : ℕ) (y : FlowFrames) → slice_get others k ≡ Some (Some y) → keep_order y ≡ true → slice_index_or ws k None ≡ None → ⊥
     known_ordered k y at keeps none =
         let is_y : slice_index_or others k None ≡ Some y = get_or_from_slice_get others k (Some y) None at in
-        let wait = subst (λ o. IsBufferedFor busy others o (slice_index_or ws k None)) is_y (whole.each k (slice_get_within others k (Some y) at)) in
+        let wait = subst (λ o. IsBufferedFor busy ends others o (slice_index_or ws k None)) is_y (whole.each k (slice_get_within others k (Some y) at)) in
         let zero_wait = subst (λ b. MatchBool b (slice_index_or ws k None ≡ Some 0)
-        (IsQueueGroupWait busy (leasts_of others) others y (slice_index_or ws k None))) keeps wait in
+        (IsQueueGroupWait busy ends (leasts_of others) others y (slice_index_or ws k None))) keeps wait in
         none-some 0 (sym none ∙ zero_wait)
 
     -- nothing goes before of which no wait is known
@@ -340,7 +339,7 @@ module _ (unit : ℕ → ℕ) (Twins : ℕ → ℕ → Type 0) (one_twin : (m n 
       let late : delay_of x.stream w ≡ delay_of y.stream w = omega (arith, jitter, bits) in
       rw (is_a) (judged_no_later x y same limit (delay_of x.stream a) (delay_of y.stream w) (omega (arith, below, late)))
 
-  pub frame_no_later : (bp bw : Buffering) → IsBuffering timing all bp → IsBuffering busy others bw → bp.waits ≡ vs → bw.waits ≡ ws
+  pub frame_no_later : (bp bw : Buffering) → IsBuffering timing ends all bp → IsBuffering busy ends others bw → bp.waits ≡ vs → bw.waits ≡ ws
       → (i : ℕ) (x y : FlowFrames) → slice_get all i ≡ Some (Some x) → slice_get others (place i) ≡ Some (Some y) → AreFrames unit Twins x y
       → AreAtOnePace x.stream y.stream → (limit : ℕ) (d e : Delay)
       → IsFrameDelay timing bp i x limit d → IsFrameDelay busy bw (place i) y limit e → IsNoLater (Some d) (Some e)
@@ -394,7 +393,7 @@ module _ (unit : ℕ → ℕ) (Twins : ℕ → ℕ → Type 0) (one_twin : (m n 
 
   -- ---- any frames, as far as their waits are reported
 
-  pub wait_in_no_later : (bp bw : Buffering) → IsBuffering timing all bp → IsBuffering busy others bw → bp.waits ≡ vs → bw.waits ≡ ws
+  pub wait_in_no_later : (bp bw : Buffering) → IsBuffering timing ends all bp → IsBuffering busy ends others bw → bp.waits ≡ vs → bw.waits ≡ ws
       → (i : ℕ) (x y : FlowFrames) → slice_get all i ≡ Some (Some x) → slice_get others (place i) ≡ Some (Some y) → AreFrames unit Twins x y
       → (v : Option ℕ) (b : ℕ)
       → IsWaitIn timing bp i x v → IsWaitIn busy bw (place i) y (Some b) → (a : ℕ) × (v ≡ Some a) × (a ≤ b)

@@ -132,7 +132,7 @@ module _ (timing : Timing) (asked : Asked) (buffering : Buffering) where
 
 pub some_delays : (timing : Timing) (asked : Asked) → (delays : List (Option Delay)) × AreFlowDelays timing asked delays
 some_delays timing asked =
-    let buffering = some_buffering timing (frames_asked asked) in
+    let buffering = some_buffering timing asked.unplanned_end (frames_asked asked) in
     let found = listed None (length asked.flows) (λ flow delay. HasDelay timing asked flow delay) (λ flow below.
     let one = some_delay_by timing asked buffering.0 flow (get_or asked.flows flow None) (slice_get-get_or asked.flows flow None below) in
     (one.0, (buffering.0, buffering.1, one.1))) in

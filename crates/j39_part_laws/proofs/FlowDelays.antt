@@ -14,10 +14,11 @@ use Rattle.j39_load.specs.declared.waits.delay.Delay.{Delay}
 use Rattle.j39_load.specs.declared.waits.delay.Delay.TheVariants.{Beyond, Late, Long, Whole, Within}
 use Rattle.std.specs.Option.{option_map_or}
 use Rattle.std.proofs.lemmas.Bool.{and_from, and_parts, cases_Bool, eqb-true, false≢true, ne_eqb}
-use Rattle.std.proofs.Common.{zero, suc, ◌+◌, ◌-◌, ◌*◌, ◌==◌, ◌&&◌, arith, true, false, inl, inr, nat_le, if◌then◌else◌, get_or}
+use Rattle.std.proofs.Common.{zero, suc, ◌+◌, ◌-◌, ◌*◌, ◌^◌, ◌==◌, ◌&&◌, arith, true, false, inl, inr, nat_le, if◌then◌else◌, get_or}
 use Rattle.j39_load.specs.AnyQueues.{Buffering, IsBuffering}
 use Rattle.j39_load.specs.Asked.{announcements_of_unit, Asked, asked_of, frames_asked, frames_of_flow, frames_of_request, own_frames, packets_of_unit, singles_of_flow}
 use Rattle.j39_load.specs.Delays.{HasDelay, HasDelayBy, IsDelayOf, IsFrameDelay}
+use Rattle.j39_load.specs.LiveClaims.{last_claim, unplanned_end}
 use Rattle.j39_load.specs.FlowLoads.{load_of_flow, loads_of}
 use Rattle.j39_load.proofs.StreamsBefore.{get_or_inside}
 use Rattle.j39_load.proofs.WholeMessages.{announcements_read, packets_read}
@@ -155,6 +156,16 @@ module _ (at : Places) (part whole : Plan) (is : IsPartAt at part whole) (good :
   abbrev asked_there : Asked
   asked_there = asked_of timing whole stays
 
+  -- what isn't planned has the same identifiers there
+  abbrev ends : ℕ
+  ends = unplanned_end whole
+
+  same_end : unplanned_end part ≡ unplanned_end whole
+  same_end = ap (λ b. end_of b part.timing) is.live ∙ ap (end_of whole.live) is.timing
+    where
+      end_of : Bool → Option Timing → ℕ
+      end_of live timing = if live && option_map_or (λ (t : Timing). t.unplanned == 0) timing false then last_claim + 1 else 2 ^ 29
+
   abbrev place : ℕ → ℕ
   place = frames_place at part whole is good stays reported decides reports_who timing
 
@@ -180,8 +191,8 @@ module _ (at : Places) (part whole : Plan) (is : IsPartAt at part whole) (good :
   stands_at : (p : ℕ) (y : FlowFrames) → get_or (frames_asked asked_there) p None ≡ Some y → slice_get (frames_asked asked_there) p ≡ Some (Some y)
   stands_at p y read = slice_get-get_or (frames_asked asked_there) p None (get_or_inside (frames_asked asked_there) p y read) ∙ ap Some read
 
-  module _ (f : ℕ) (below : f < length part.flows.items) (bp bw : Buffering) (is_p : IsBuffering timing (frames_asked asked) bp)
-      (is_w : IsBuffering busy (frames_asked asked_there) bw) where
+  module _ (f : ℕ) (below : f < length part.flows.items) (bp bw : Buffering) (is_p : IsBuffering timing ends (frames_asked asked) bp)
+      (is_w : IsBuffering busy ends (frames_asked asked_there) bw) where
     load_there : (o k : Option FlowLoad) → slice_get ls f ≡ Some o → slice_get asked_there.flows (at.flow f) ≡ Some k → LoadsAlike at o k
     load_there o k at_o at_k =
         let its = (flows_some at part whole is good stays reported decides reports_who timing).each f o at_o in
@@ -199,7 +210,7 @@ module _ (at : Places) (part whole : Plan) (is : IsPartAt at part whole) (good :
     turn_by u packets few l at_l some has tp tw (Some k) at_y alike (ap_here, sp, wa, ws, is_p_turn) (Some aw, None, wa_there, ws_there, is_w_turn) t known =
         absurd (none-some t (sym is_w_turn ∙ known))
     turn_by u packets few l at_l some has tp tw (Some k) at_y alike (ap_here, sp, wa, ws, is_p_turn) (Some aw, Some sw, wa_there, ws_there, is_w_turn) t known =
-        let (a, is_a, a_less) = wait_in_no_later at.unit (AreTwinNumbers at) (one_twin at) timing unplanned range busier (frames_asked asked) (frames_asked asked_there) place all_some bp.waits bw.waits
+        let (a, is_a, a_less) = wait_in_no_later at.unit (AreTwinNumbers at) (one_twin at) timing unplanned range busier (frames_asked asked) (frames_asked asked_there) place all_some ends bp.waits bw.waits
         is_p.bounded is_w.bounded bp bw is_p is_w refl refl (2 * length ls + (length lus_here + u)) l.announcements k.announcements
         (announcements_at at part whole is good stays reported decides reports_who timing u l at_l)
         (subst (λ p. slice_get (frames_asked asked_there) p ≡ Some (Some k.announcements))
@@ -207,7 +218,7 @@ module _ (at : Places) (part whole : Plan) (is : IsPartAt at part whole) (good :
         (stands_at (announcements_place asked_there (at.unit u)) k.announcements (announcements_read asked_there (at.unit u) k at_y)))
         alike.announcements.0 ap_here aw wa
         (subst (λ p. IsWaitIn busy bw p k.announcements (Some aw)) (sym (announcements_place_there at part whole is good stays reported decides reports_who timing u few)) wa_there) in
-        let (s, is_s, s_less) = wait_in_no_later at.unit (AreTwinNumbers at) (one_twin at) timing unplanned range busier (frames_asked asked) (frames_asked asked_there) place all_some bp.waits bw.waits
+        let (s, is_s, s_less) = wait_in_no_later at.unit (AreTwinNumbers at) (one_twin at) timing unplanned range busier (frames_asked asked) (frames_asked asked_there) place all_some ends bp.waits bw.waits
         is_p.bounded is_w.bounded bp bw is_p is_w refl refl (2 * length ls + u) l.packets k.packets
         (packets_at at part whole is good stays reported decides reports_who timing u l at_l)
         (subst (λ p. slice_get (frames_asked asked_there) p ≡ Some (Some k.packets))
@@ -301,7 +312,7 @@ module _ (at : Places) (part whole : Plan) (is : IsPartAt at part whole) (good :
         → l.messages ≡ a → k.messages ≡ c → MessagesAlike at a c → (d e : Delay)
         → IsDelayOf timing asked bp f a l.limit d → IsDelayOf busy asked_there bw (at.flow f) c k.limit e → IsNoLater (Some d) (Some e)
     by_messages l k its its_there limit (Short x) (Short y) short short_there alike d e here there =
-        frame_no_later at.unit (AreTwinNumbers at) (one_twin at) timing unplanned range busier (frames_asked asked) (frames_asked asked_there) place all_some bp.waits bw.waits
+        frame_no_later at.unit (AreTwinNumbers at) (one_twin at) timing unplanned range busier (frames_asked asked) (frames_asked asked_there) place all_some ends bp.waits bw.waits
         is_p.bounded is_w.bounded bp bw is_p is_w refl refl f x y (own_at f l x its short)
         (subst (λ n. slice_get (frames_asked asked_there) n ≡ Some (Some y))
         (sym (flow_place at part whole is good timing stays reported decides reports_who f below)) (own_there (at.flow f) k y its_there short_there))
@@ -328,4 +339,4 @@ module _ (at : Places) (part whole : Plan) (is : IsPartAt at part whole) (good :
   pub delays_no_later : DelaysNoLater at part whole timing busy reported stays
   delays_no_later f below here there (bp, is_p, by_p) has_there =
       let (bw, is_w, by_w) = subst (λ a. HasDelay busy a (at.flow f) there) (same_asked timing unplanned range whole stays) has_there in
-      no_later f below bp bw is_p is_w here there by_p by_w
+      no_later f below bp bw (subst (λ n. IsBuffering timing n (frames_asked asked) bp) same_end is_p) is_w here there by_p by_w

@@ -45,7 +45,7 @@ use Rattle.j39_part_laws.proofs.Shares.{ceil-mono}
 use Rattle.j39_part_laws.proofs.Frames.{AreAtOnePace, AreBroadcast, AreFrames, WantedAlike}
 use Rattle.j39_part_laws.proofs.Groups.{bad_pgn, same_load}
 use Rattle.j39_part_laws.proofs.Places.{value_at}
-use Rattle.j39_part_laws.proofs.PlanFrames.{any_few, any_in, AreTwinNumbers, destination_few, few_ident, greatest_few, greatest_ident_in, greatest_in, ident-mono, IsAmong, least_ident_in, unit_at_place, there_too}
+use Rattle.j39_part_laws.proofs.PlanFrames.{any_few, any_in, AreTwinNumbers, greatest_ident_in, greatest_in, ident-mono, IsAmong, least_ident_in, unit_at_place, there_too}
 
 abbrev pub Alike : Places → FlowFrames → FlowFrames → Type 0
 Alike at = AreFrames at.unit (AreTwinNumbers at)
@@ -129,7 +129,6 @@ module _ (timing : Timing) (pace : Pace) (at : Places) where
     least = alike.least;
     greatest = alike.greatest;
     last = alike.last;
-    below = alike.below;
     sender = alike.sender;
     receiver = alike.receiver;
     few_sender = alike.few_sender;
@@ -279,8 +278,6 @@ module _ (at : Places) (part whole : Plan) (is : IsPartAt at part whole) (good :
       least = least_ident group.priority group.pgn;
       greatest = greatest_ident group.priority group.pgn;
       last = greatest_ident group.priority group.pgn;
-      below = few_ident group.priority group.pgn _ _ group.priority_range page (destination_few at part whole is stays reported decides reports_who flow.to)
-          (greatest_few at part whole is stays reported decides reports_who flow.sender);
       sender = sender_any;
       receiver = refl;
       few_sender = any_few at part whole is stays reported decides reports_who flow.sender among.sender_in;
@@ -314,15 +311,6 @@ module _ (at : Places) (part whole : Plan) (is : IsPartAt at part whole) (good :
           let answers = ident-mono timing.transport_priority 60416 _ _ _ _ sender receiver in
           omega (arith, asks, answers)
 
-      session_few : (packet_frames timing us reported flow v pace packets).last_ident ≤ 2 ^ 29
-      session_few =
-          let receiver = greatest_few at part whole is stays reported decides reports_who v in
-          let sender = greatest_few at part whole is stays reported decides reports_who flow.sender in
-          let urgent = timing.transport_priority_range in
-          let asks = few_ident timing.transport_priority 60416 _ _ urgent (omega arith) receiver sender in
-          let answers = few_ident timing.transport_priority 60416 _ _ urgent (omega arith) sender receiver in
-          omega (arith, asks, answers)
-
       packets_alike : Alike at (packet_frames timing us reported flow v pace packets) (packet_frames timing ws stays there (at.unit v) pace packets)
       packets_alike = record {
         frames = let same = ap (λ (s : _). s.frames) packets_same in omega (arith, same);
@@ -333,7 +321,6 @@ module _ (at : Places) (part whole : Plan) (is : IsPartAt at part whole) (good :
         least = least_ident timing.transport_priority 60160;
         greatest = greatest_ident timing.transport_priority 60160;
         last = session_last;
-        below = session_few;
         sender = sender_any;
         receiver = any_in at part whole is stays reported decides reports_who v in_units;
         few_sender = any_few at part whole is stays reported decides reports_who flow.sender among.sender_in;
@@ -510,7 +497,6 @@ module _ (at : Places) where
     least = omega arith;
     greatest = omega arith;
     last = omega arith;
-    below = omega arith;
     sender = refl;
     receiver = refl;
     few_sender = λ u its. absurd (none-some u its);

@@ -138,7 +138,6 @@ pub record AreFrames (unit : ℕ → ℕ) (Twins : ℕ → ℕ → Type 0) (x y 
   pub least : y.least_ident ≤ x.least_ident
   pub greatest : x.greatest_ident ≤ y.greatest_ident
   pub last : x.last_ident ≤ y.last_ident
-  pub below : x.last_ident ≤ 2 ^ 29
   pub sender : y.any_sender ≡ option_map unit x.any_sender
   pub receiver : y.any_receiver ≡ option_map unit x.any_receiver
   pub few_sender : (u : ℕ) → x.any_sender ≡ Some u → unit u < 128

@@ -31,15 +31,6 @@ ident-mono priority pgn d e s t destination source =
       | false ↦ omega arith
     ]
 
--- an identifier has 29 bits
-pub few_ident : (priority pgn d s : ℕ) → priority ≤ 7 → pgn < 131072 → d ≤ 255 → s ≤ 255 → identifier_of priority pgn d s ≤ 2 ^ 29
-few_ident priority pgn d s urgent page destination source =
-    elim (is_pdu2 pgn)
-    as (λ b. priority * 2 ^ 26 + pgn * 2 ^ 8 + (if b then 0 else d * 2 ^ 8) + s ≤ 2 ^ 29) [
-      | true ↦ omega (arith, urgent, page, source)
-      | false ↦ omega (arith, urgent, page, destination, source)
-    ]
-
 -- the flow is of units at places below a number
 pub record IsAmong (count : ℕ) (to : To) (sender : ℕ) : Type 0 where
   pub sender_in : sender < count
@@ -154,21 +145,6 @@ module _ (at : Places) where
     greatest_in u within =
         let (unit, here) = unit_at_place u within in
         rw (here, there_too u unit here) (greatest_of_unit u unit here)
-
-    pub greatest_few : (u : ℕ) → of_unit us (greatest_address reported) u ≤ 255
-    greatest_few u = go (slice_get us u)
-      where
-        either : (b : Bool) (n : ℕ) → n < 254 → (if b then max n 247 else n) ≤ 255
-        either true n few = omega (arith, few)
-        either false n few = omega (arith, few)
-
-        go : (o : Option UnitPlan) → option_map_or (greatest_address reported) o 0 ≤ 255
-        go None = omega arith
-        go (Some unit) = either (may_move reported unit) unit.address unit.address_range
-
-    pub destination_few : (to : To) → destination_at (of_unit us (greatest_address reported)) to ≤ 255
-    destination_few ToAllUnits = omega arith
-    destination_few (One v) = greatest_few v
 
     pub any_in : (u : ℕ) → u < length us → any_unit ws (at.unit u) ≡ option_map at.unit (any_unit us u)
     any_in u within =

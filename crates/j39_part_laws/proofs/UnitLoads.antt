@@ -31,7 +31,7 @@ use Rattle.j39_part_laws.specs.PlanParts.{IsPartAt, IsRequestThere, Places}
 use Rattle.j39_part_laws.specs.Sublists.{IsSub}
 use Rattle.j39_part_laws.proofs.FlowLoads.{Alike, FramesAlike, LoadsAlike, MessagesAlike}
 use Rattle.j39_part_laws.proofs.Frames.{AreBroadcast, AreOfUnit}
-use Rattle.j39_part_laws.proofs.PlanFrames.{any_few, any_in, destination_few, few_ident, greatest_few, greatest_ident_in, IsAmong, least_ident_in}
+use Rattle.j39_part_laws.proofs.PlanFrames.{any_few, any_in, greatest_ident_in, IsAmong, least_ident_in}
 use Rattle.j39_part_laws.proofs.Shares.{ceil-mono, sum-no-more}
 use Rattle.j39_part_laws.proofs.Sublists.{sub_filter}
 
@@ -170,8 +170,6 @@ module _ (at : Places) (part whole : Plan) (is : IsPartAt at part whole) (stays 
         least = least_ident_in at part whole is stays reported decides reports_who timing.transport_priority pgn u ToAllUnits (among_all u within);
         greatest = greatest;
         last = greatest;
-        below = few_ident timing.transport_priority pgn 255 _ timing.transport_priority_range page (omega arith)
-            (greatest_few at part whole is stays reported decides reports_who u);
         sender = any_in at part whole is stays reported decides reports_who u within;
         receiver = refl;
         few_sender = any_few at part whole is stays reported decides reports_who u within;
@@ -237,8 +235,6 @@ module _ (at : Places) (part whole : Plan) (is : IsPartAt at part whole) (stays 
               least = least;
               greatest = greatest;
               last = greatest;
-              below = few_ident 6 59904 _ _ (omega arith) (omega arith) (destination_few at part whole is stays reported decides reports_who request.to)
-                  (greatest_few at part whole is stays reported decides reports_who request.sender);
               sender = ap (any_unit ws) stands.sender ∙ any_in at part whole is stays reported decides reports_who request.sender among.sender_in;
               receiver = refl;
               few_sender = any_few at part whole is stays reported decides reports_who request.sender among.sender_in;

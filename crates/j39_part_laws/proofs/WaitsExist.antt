@@ -128,24 +128,24 @@ module _ (leasts : List (Option ℕ)) (own : FlowFrames) where
 
 -- ---- buffering
 
-module _ (timing : Timing) (all : List (Option FlowFrames)) where
-  some_queue_group_wait : (own : FlowFrames) → (wait : Option ℕ) × IsQueueGroupWait timing (leasts_of all) all own wait
+module _ (timing : Timing) (ends : ℕ) (all : List (Option FlowFrames)) where
+  some_queue_group_wait : (own : FlowFrames) → (wait : Option ℕ) × IsQueueGroupWait timing ends (leasts_of all) all own wait
   some_queue_group_wait own =
-      let level = some_level (leasts_of all) (with_unplanned timing own) all in
-      let wait = some_wait (demands_of all) (blocking_with timing own) (streams_with timing (leasts_of all) all (with_unplanned timing own) level.0) timing in
+      let level = some_level (leasts_of all) (with_unplanned timing ends own) all in
+      let wait = some_wait (demands_of all) (blocking_with timing own) (streams_with timing (leasts_of all) all (with_unplanned timing ends own) level.0) timing in
       (wait.0, record { level = level.0; of_queue_group = level.1; least_wait = wait.1 })
 
-  some_buffered_for : (o : Option FlowFrames) → (wait : Option ℕ) × IsBufferedFor timing all o wait
+  some_buffered_for : (o : Option FlowFrames) → (wait : Option ℕ) × IsBufferedFor timing ends all o wait
   some_buffered_for None = (Some 0, refl)
   some_buffered_for (Some frames) = go (keep_order frames)
     where
-      go : (b : Bool) → (wait : Option ℕ) × MatchBool b (wait ≡ Some 0) (IsQueueGroupWait timing (leasts_of all) all frames wait)
+      go : (b : Bool) → (wait : Option ℕ) × MatchBool b (wait ≡ Some 0) (IsQueueGroupWait timing ends (leasts_of all) all frames wait)
       go true = (Some 0, refl)
       go false = some_queue_group_wait frames
 
-  pub some_buffering : (buffering : Buffering) × IsBuffering timing all buffering
+  pub some_buffering : (buffering : Buffering) × IsBuffering timing ends all buffering
   some_buffering =
-      let found = listed None (length all) (λ j wait. IsBufferedFor timing all (get_or all j None) wait) (λ j below. some_buffered_for (get_or all j None)) in (
+      let found = listed None (length all) (λ j wait. IsBufferedFor timing ends all (get_or all j None) wait) (λ j below. some_buffered_for (get_or all j None)) in (
         record { frames = buffered found.0 all; waits = found.0; least_unbounded = least_unbounded found.0 all },
         record {
           bounded = record { count = found.1; each = found.2 };

@@ -1,6 +1,6 @@
 -- What is said of frames up to a bit rests on what is seen up to there, also where units keep no order.
-use Rattle.std.proofs.Common.{◌≡◌, ℕ, ◌<◌, ◌≤◌, Bool, true, not, cond, ◌&&◌, ◌||◌, ltb, leb, refl, ap, subst, arith, inl, inr}
-use Rattle.std.proofs.lemmas.Bool.{and_parts, and_from, cases_Bool, leb-true, both_ways}
+use Rattle.std.proofs.Common.{◌≡◌, ℕ, ◌<◌, ◌≤◌, Bool, true, not, cond, ◌&&◌, ◌||◌, ltb, leb, refl, sym, ◌∙◌, ap, subst, arith, inl, inr}
+use Rattle.std.proofs.lemmas.Bool.{and_parts, and_from, cases_Bool, leb-true, both_ways, true≢false}
 use Rattle.j39_timing.specs.TimedFrames.{Schedule}
 use Rattle.j39_timing.specs.FrameStreams.{Origins}
 use Rattle.j39_timing.specs.Traffic.{Traffic, Others, DemandFits, IsSingle, OwnDemandFits, delay_of}
@@ -110,12 +110,13 @@ module _ (s : Schedule) (controllers : Controllers) (traffic : Traffic) (unplann
         let less : unplanned_queued then_seen then_planned from to ≤ unplanned_queued s planned from to =
         fewer_unplanned s planned of queue_group by 0 from to before in
         omega (arith, most, less);
-    above_all = λ p in_p some.
-        let above = known.above_all p in_p some in
-        elim (cases_Bool (ltb (s.queued p) by)) [
-          | inl early ↦ rw (early) above
-          | inr late ↦ rw (late) (omega arith)
-        ];
+    above_unplanned = λ p in_p isnt early some.
+        let same : then_seen.ident p ≡ s.ident p = own p early in
+        let below = known.above_unplanned p in_p (elim (cases_Bool (planned p)) [
+          | inl is ↦ absurd (true≢false (sym (then_is_planned s planned by p is early) ∙ isnt))
+          | inr not_planned ↦ not_planned
+        ]) (omega (arith, seen, early)) some in
+        omega (arith, below, same);
   }
 
   pub queue_group_begun_until : IsLegalInAnyOrder s controllers → ((j : ℕ) → j < traffic.count → 0 < (traffic.stream j).period) → (i wait : ℕ)

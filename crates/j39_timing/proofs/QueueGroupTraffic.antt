@@ -114,8 +114,9 @@ module _ (s : Schedule) (controllers : Controllers) (traffic : Traffic) (unplann
 
       -- so does what begins while one may be that isn't planned
       by_unplanned : (from h q : ℕ) → GoingWait s planned first x from (s.queued x + wait) → h < s.count → q < s.count → planned h ≡ false
-          → IsQueuedAt s h (s.start q) → from < s.start q → s.start q ≤ s.queued x + wait → (not (planned q) || with_it q) ≡ true
-      by_unplanned from h q stretch in_h in_q isnt ready after within =
+          → IsQueuedAt s h (s.start q) → s.ident q ≤ s.ident h → from < s.start q → s.start q ≤ s.queued x + wait
+          → (not (planned q) || with_it q) ≡ true
+      by_unplanned from h q stretch in_h in_q isnt ready order after within =
           let it : is_unplanned_queued s planned from (s.queued x + wait) h ≡ true =
           and_from (not (planned h)) (leb (s.queued h) (s.queued x + wait) && ltb from (s.start h)) (ap not isnt)
           (and_from (leb (s.queued h) (s.queued x + wait)) (ltb from (s.start h))
@@ -123,7 +124,9 @@ module _ (s : Schedule) (controllers : Controllers) (traffic : Traffic) (unplann
           let one : 1 ≤ unplanned_queued s planned from (s.queued x + wait) =
           total-one s.count (λ p. cond (is_unplanned_queued s planned from (s.queued x + wait) p) 1 0) h 1 in_h (rw (it) (omega arith)) in
           let most = few from stretch in
-          let below : s.ident q < queue_group.level = known.above_all q in_q (omega (arith, one, most)) in
+          let above : s.ident h < queue_group.level = known.above_unplanned h in_h isnt (omega (arith, ready.0, within, seen))
+          (omega (arith, one, most)) in
+          let below : s.ident q < queue_group.level = omega (arith, order, above) in
           or_right (not (planned q)) (with_it q) (or_right (queue_group.has (of.source q)) (ltb (s.ident q) queue_group.level) (lt-ltb (s.ident q) queue_group.level below))
 
       closed : (from : ℕ) → GoingWait s planned first x from (s.queued x + wait) → (p q : ℕ) → p < s.count → q < s.count → planned p ≡ true
@@ -148,7 +151,7 @@ module _ (s : Schedule) (controllers : Controllers) (traffic : Traffic) (unplann
               | inl of_plan ↦
                   let has : queue_group.has (of.source h) ≡ true = known.closed p h in_p in_h is of_plan unit loses with_queue_group in
                   by_member h q in_h in_q of_plan has early ready order
-              | inr isnt ↦ by_unplanned from h q stretch in_h in_q isnt ready after within
+              | inr isnt ↦ by_unplanned from h q stretch in_h in_q isnt ready order after within
             ]
           ])
 

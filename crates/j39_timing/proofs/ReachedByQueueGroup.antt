@@ -73,7 +73,7 @@ three_of_queue_group = record {
   few_unplanned = λ p from to _ _ _ _ _ _.
       let none : total 3 (λ q. 0) ≡ 0 = total-none 3 (λ q. 0) (λ q _. refl) in
       omega (arith, none);
-  above_all = λ p _ some. absurd (omega (arith, some));
+  above_unplanned = λ p _ _ _ some. absurd (omega (arith, some));
 }
 
 demand_fits : QueueGroupDemandFits three_streams last_two 0 160 0 320

@@ -51,7 +51,7 @@ pub record IsQueueGroupUntil (s : Schedule) (controllers : Controllers) (traffic
       → IsQueuedAt s p t → IsQueuedAt s q t → s.ident p ≡ s.ident q → (planned q ≡ true) × (queue_group.has (of.source q) ≡ true)
   pub few_unplanned : (p from to : ℕ) → p < s.count → planned p ≡ true → queue_group.has (of.source p) ≡ true → to < s.now → Waits s p to
       → QueueGroupWaits s planned of queue_group from to → unplanned_queued s planned from to ≤ unplanned
-  pub above_all : (p : ℕ) → p < s.count → 0 < unplanned → s.ident p < queue_group.level
+  pub above_unplanned : (p : ℕ) → p < s.count → planned p ≡ false → s.queued p < s.now → 0 < unplanned → s.ident p < queue_group.level
 
 -- of streams that may go before, those of its frames whose units keep no order begin so, as far as is seen
 abbrev pub HaveWaitsUntil : Schedule → Controllers → Traffic → (ℕ → Bool) → Origins → ℕ → (ℕ → ℕ) → ℕ → Type 0

@@ -1,6 +1,6 @@
 -- The frames that may go before one that waits in a unit without order: those of its queue group, and those that may go before these. A queue group
 -- is what waits in one work-conserving queue (Davis, Navet, 2012), but of several units.
-use Rattle.std.specs.Prelude.{◌≡◌, ℕ, ◌+◌, ◌*◌, ◌<◌, ◌≤◌, Bool, true, not, ◌&&◌, ◌||◌, cond, nat_lt, nat_le}
+use Rattle.std.specs.Prelude.{◌≡◌, ℕ, ◌+◌, ◌*◌, ◌<◌, ◌≤◌, Bool, true, false, not, ◌&&◌, ◌||◌, cond, nat_lt, nat_le}
 use Rattle.j39_timing.specs.Sums.{total}
 use Rattle.j39_timing.specs.TimedFrames.{Schedule, Waits}
 use Rattle.j39_timing.specs.FrameStreams.{Origins, AreOfStreams}
@@ -56,8 +56,8 @@ pub record IsTrafficOfQueueGroup (s : Schedule) (controllers : Controllers) (tra
   -- that aren't planned are queued than so many, whatever their identifiers are
   pub few_unplanned : (p from to : ℕ) → p < s.count → planned p ≡ true → queue_group.has (of.source p) ≡ true → to < s.now → Waits s p to
       → QueueGroupWaits s planned of queue_group from to → unplanned_queued s planned from to ≤ unplanned
-  -- where there may be some, each identifier is below the level: one of them may wait in a unit of the queue group
-  pub above_all : (p : ℕ) → p < s.count → 0 < unplanned → s.ident p < queue_group.level
+  -- where there may be some, their identifiers are below the level: one of them may wait in a unit of the queue group
+  pub above_unplanned : (p : ℕ) → p < s.count → planned p ≡ false → s.queued p < s.now → 0 < unplanned → s.ident p < queue_group.level
 
 -- frames of stream j may go before those of the queue group, whatever identifiers they have, or are of it
 abbrev pub may_go_with : Traffic → QueueGroup → ℕ → Bool

@@ -111,7 +111,7 @@ module _ (v : Vehicle) (scope : Scope) (delays : Delays) (stated : AreDelays v d
   }
 
   abbrev keeps : {b : ℕ} → (t : TimedBus v scope b)
-      → IsOtherwiseKept v delays b t.timing (all_of v scope delays stated seen t) (scope_on scope b) (seen b)
+      → IsOtherwiseKept v delays b t.timing (asked_on (of_bus v scope delays stated seen t)).unplanned_end (all_of v scope delays stated seen t) (scope_on scope b) (seen b)
   keeps {b} t = kept b t.timing (of_bus v scope delays stated seen t) t.inside
 
   shortest_there : (b : ℕ) (t : TimedBus v scope b) → shortest_on v.buses.items b ≡ shortest_million t.timing
@@ -254,7 +254,7 @@ module _ (v : Vehicle) (scope : Scope) (delays : Delays) (stated : AreDelays v d
         let at_place = delay_here v delays stated l.x _ (Rattle.j39_vehicle_time_laws.proofs.Circle.has v scope delays stated seen l.x.bus l.x.flow l.tx l.there) in
         let same : wait_with v scope delays stated seen l.x.bus l.x.flow (Some l.tx) ≡ (bounded_here v scope delays stated seen l.x.bus l.x.flow l.tx l.there).wait =
         wait_is v scope delays stated seen l.x.bus l.x.flow l.tx l.there in
-        let frames = frames_then l.tx.timing (all_of v scope delays stated seen l.tx) (seen l.x.bus).schedule (seen l.x.bus).controllers (seen l.x.bus).planned
+        let frames = frames_then l.tx.timing (asked_on ofb).unplanned_end (all_of v scope delays stated seen l.tx) (seen l.x.bus).schedule (seen l.x.bus).controllers (seen l.x.bus).planned
         (seen l.x.bus).of l.x.flow
         ((keeps l.tx).frames l.x.flow l.there.bits l.among at_place) by now streams in
         let legal = Rattle.j39_timing.proofs.AnyPrefixes.still_legal_in_any_order (seen l.x.bus).schedule (seen l.x.bus).controllers by
@@ -482,7 +482,7 @@ module _ (v : Vehicle) (scope : Scope) (delays : Delays) (stated : AreDelays v d
       record {
         clock = (kept b timing its inside).clock;
         legal = (kept b timing its inside).legal;
-        frames = λ flow bits among at. with_streams timing (frames_asked (asked_on its)) (seen b).schedule (seen b).controllers (seen b).planned (seen b).of flow
+        frames = λ flow bits among at. with_streams timing (asked_on its).unplanned_end (frames_asked (asked_on its)) (seen b).schedule (seen b).controllers (seen b).planned (seen b).of flow
             ((kept b timing its inside).frames flow bits among at)
             (subst (λ (x : Traffic). AreOfStreams (seen b).schedule (λ p. (seen b).planned p ≡ true) x.count x.stream (seen b).of) same streams);
       }

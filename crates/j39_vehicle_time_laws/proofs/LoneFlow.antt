@@ -191,9 +191,9 @@ pub record KeepsItsPace (v : Vehicle) (b : ℕ) (timing : Timing) (traffic : Tra
   pub apart : (flow : FlowPlan) (ms : ℕ) → flow_at v.buses.items (record { bus = b; flow = f.flow }) ≡ Some flow → period_ms flow ≡ Some ms
       → 1000 * ms * shortest_million timing ≤ f.step
 
-module _ (timing : Timing) (f : LoneFlow) (some : 1 ≤ f.width) (clock : IsTrueTime timing (λ t. f.unit * t)) (all : List (Option FlowFrames))
+module _ (timing : Timing) (f : LoneFlow) (some : 1 ≤ f.width) (clock : IsTrueTime timing (λ t. f.unit * t)) (ends : ℕ) (all : List (Option FlowFrames))
     (suits : Fits (streams_of timing all) f.flow f.ident) (ordered : (j : ℕ) → keep_order (planned_at all j) ≡ true) where
-  lone_keeps : (i : ℕ) → KeepsOtherwise timing all (frames_of f) all_in_order (λ p. true) (origins_in f) i
+  lone_keeps : (i : ℕ) → KeepsOtherwise timing ends all (frames_of f) all_in_order (λ p. true) (origins_in f) i
   lone_keeps i = record {
     longest_at_most = λ p in_p. omega arith;
     as_wanted = never_wanted (frames_of f) (λ p. true) (origins_in f) (streams_of timing all).demands (streams_of timing all).stream
@@ -211,7 +211,7 @@ module _ (timing : Timing) (f : LoneFlow) (some : 1 ≤ f.width) (clock : IsTrue
 
   pub lone_kept : (v : Vehicle) (delays : Delays) (b : ℕ) (flows : ℕ → Bool)
       → (¬ IsSentOn v delays (record { bus = b; flow = f.flow }) → KeepsItsPace v b timing (streams_of timing all) f)
-      → IsOtherwiseKept v delays b timing all flows (bus_with f)
+      → IsOtherwiseKept v delays b timing ends all flows (bus_with f)
   lone_kept v delays b flows pace = record {
     clock = clock;
     apart = λ p q ms other in_p in_q differ is_p is_q own same single its every.
@@ -229,9 +229,9 @@ module _ (timing : Timing) (f : LoneFlow) (some : 1 ≤ f.width) (clock : IsTrue
     frames = λ other bits among at. lone_keeps other;
   }
 
-pub none_kept : (v : Vehicle) (delays : Delays) (b : ℕ) (timing : Timing) (all : List (Option FlowFrames)) (flows : ℕ → Bool) (f : LoneFlow) → f.count ≡ 0
-    → 1 ≤ f.width → IsTrueTime timing (λ t. f.unit * t) → IsOtherwiseKept v delays b timing all flows (bus_with f)
-none_kept v delays b timing all flows f none some clock = record {
+pub none_kept : (v : Vehicle) (delays : Delays) (b : ℕ) (timing : Timing) (ends : ℕ) (all : List (Option FlowFrames)) (flows : ℕ → Bool) (f : LoneFlow) → f.count ≡ 0
+    → 1 ≤ f.width → IsTrueTime timing (λ t. f.unit * t) → IsOtherwiseKept v delays b timing ends all flows (bus_with f)
+none_kept v delays b timing ends all flows f none some clock = record {
   clock = clock;
   apart = λ p q ms other in_p. absurd (omega (arith, in_p, none));
   legal = legal_in_order (frames_of f) (lone_legal f some);

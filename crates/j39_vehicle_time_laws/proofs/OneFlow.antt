@@ -281,7 +281,7 @@ module _ (v : Vehicle) (delays : Delays) (stated : AreDelays v delays) (at : Flo
       keeps_bus : IsKeptBus has.timing asked (delays_on delays at.bus) (scope_on scope at.bus) (seen at.bus)
       keeps_bus = kept at.bus has.timing of_bus inside
 
-      frames_here : AreFramesInAnyOrder has.timing (frames_asked asked) (seen at.bus).schedule (seen at.bus).controllers (seen at.bus).planned
+      frames_here : AreFramesInAnyOrder has.timing asked.unplanned_end (frames_asked asked) (seen at.bus).schedule (seen at.bus).controllers (seen at.bus).planned
           (seen at.bus).of at.flow
       frames_here = keeps_bus.frames at.flow has.bits among delay_here
 

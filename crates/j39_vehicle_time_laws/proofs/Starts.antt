@@ -33,21 +33,21 @@ use Rattle.j39_timing.proofs.Buffering.{ordered_begun}
 
 -- ---- frames of units that keep order
 
-module _ (timing : Timing) (asked : List (Option FlowFrames)) (paced : All HasPeriod (asked ++ damage_frames timing))
-    (sent : All (λ (f : Option FlowFrames). IfSome f IsSent) asked) (buffering : Buffering) (buffering_delays : IsBuffering timing asked buffering) (i : ℕ) (frames : FlowFrames)
+module _ (timing : Timing) (ends : ℕ) (asked : List (Option FlowFrames)) (paced : All HasPeriod (asked ++ damage_frames timing))
+    (sent : All (λ (f : Option FlowFrames). IfSome f IsSent) asked) (buffering : Buffering) (buffering_delays : IsBuffering timing ends asked buffering) (i : ℕ) (frames : FlowFrames)
     (at : get_or asked i None ≡ Some frames) (ordered : keep_order frames ≡ true) (bounded : may_be_passed buffering frames.greatest_ident ≡ false) (wait : ℕ)
     (enough : need_of timing buffering.frames i frames wait ≤ wait) (s : Schedule) (controllers : Controllers) (planned : ℕ → Bool) (of : Origins)
-    (legal : IsLegalInAnyOrder s controllers) (known : AreFramesInAnyOrder timing asked s controllers planned of i) where
+    (legal : IsLegalInAnyOrder s controllers) (known : AreFramesInAnyOrder timing ends asked s controllers planned of i) where
   abbrev is_placed : planned_at (asked ++ damage_frames timing) i ≡ frames
-  is_placed = placed timing asked paced sent buffering buffering_delays i frames at ordered bounded wait enough
+  is_placed = placed timing ends asked paced sent buffering buffering_delays i frames at ordered bounded wait enough
 
   ordered_starts : IsSingle frames.stream → delay_of frames.stream wait ≤ frames.stream.period → AreBegunWithin s planned of i wait
   ordered_starts single fits =
       ordered_begun s controllers legal (traffic_of (asked ++ damage_frames timing)) (others_of timing) (longest_frame 8) planned of i wait known.known
-      (positive timing asked paced sent)
-      (own_ordered timing asked paced sent buffering buffering_delays i frames at ordered bounded wait enough s controllers planned of legal known)
-      (buffered_for buffering.waits) (have timing asked paced sent buffering buffering_delays i frames at ordered bounded wait enough s controllers planned of legal known)
-      (demand_fits timing asked paced sent buffering buffering_delays i frames at ordered bounded wait enough single.1)
+      (positive timing ends asked paced sent)
+      (own_ordered timing ends asked paced sent buffering buffering_delays i frames at ordered bounded wait enough s controllers planned of legal known)
+      (buffered_for buffering.waits) (have timing ends asked paced sent buffering buffering_delays i frames at ordered bounded wait enough s controllers planned of legal known)
+      (demand_fits timing ends asked paced sent buffering buffering_delays i frames at ordered bounded wait enough single.1)
       (subst (λ (own : FlowFrames). IsSingle own.stream) (sym is_placed) single)
       (subst (λ (own : FlowFrames). delay_of own.stream wait ≤ own.stream.period) (sym is_placed) fits)
 
@@ -73,7 +73,7 @@ module _ (plan : Plan) (timing : Timing) (stays : UnitPlan → Bool) (delays : L
   paces = subst (ArePaced bound.load.limit) bound.short (of_loads timing plan stays flow bound.load bound.its).messages
 
   module _ (s : Schedule) (controllers : Controllers) (planned : ℕ → Bool) (of : Origins) (legal : IsLegalInAnyOrder s controllers)
-      (known : AreFramesInAnyOrder timing (frames_asked asked) s controllers planned of flow) (spaced : IsSpaced bound.frames.stream) where
+      (known : AreFramesInAnyOrder timing asked.unplanned_end (frames_asked asked) s controllers planned of flow) (spaced : IsSpaced bound.frames.stream) where
     by_order : keep_order bound.frames ≡ true → (passed : Bool) → may_be_passed bound.buffering bound.frames.greatest_ident ≡ passed
         → MatchBool passed (Within bits ≡ Late) (IsShortDelay timing bound.buffering.frames flow bound.frames bound.load.limit (Within bits))
         → AreBegunWithin s planned of flow bound.wait
@@ -84,7 +84,7 @@ module _ (plan : Plan) (timing : Timing) (stays : UnitPlan → Bool) (delays : L
         let limited = paces.2 in
         let same : wait ≡ bound.wait = omega (arith, sum, total) in
         subst (AreBegunWithin s planned of flow) same
-        (ordered_starts timing (frames_asked asked) (all_paced timing plan stays)
+        (ordered_starts timing asked.unplanned_end (frames_asked asked) (all_paced timing plan stays)
         (all_sent timing plan stays) bound.buffering bound.is flow bound.frames here ordered passed
         wait inside.demand_fits s controllers planned of legal known (paces.1, spaced) (omega (arith, fits, limited)))
 
@@ -94,11 +94,11 @@ module _ (plan : Plan) (timing : Timing) (stays : UnitPlan → Bool) (delays : L
         let (wait, known_wait, sum) = stated_wait bound.frames bound.load.limit bits (get_or bound.buffering.waits flow None) stated in
         let total = bound.sum in
         let same : wait ≡ bound.wait = omega (arith, sum, total) in
-        let is_wait = wait_of_queue_group timing (frames_asked asked) (all_paced timing plan stays)
+        let is_wait = wait_of_queue_group timing asked.unplanned_end (frames_asked asked) (all_paced timing plan stays)
         (all_sent timing plan stays) bound.buffering.waits bound.is.bounded flow
         bound.frames here kept wait known_wait in
         subst (AreBegunWithin s planned of flow) same
-        (begun timing (frames_asked asked) (all_paced timing plan stays)
+        (begun timing asked.unplanned_end (frames_asked asked) (all_paced timing plan stays)
         (all_sent timing plan stays) s controllers planned of legal flow known flow bound.frames here kept
         (inl refl) wait is_wait)
 

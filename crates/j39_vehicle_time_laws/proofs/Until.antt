@@ -1,6 +1,6 @@
 -- What is seen of a bus up to a bit keeps to its plan, where the frames that are queued before it keep to their streams.
 use Rattle.std.proofs.Common.{◌≡◌, ℕ, ◌+◌, ◌<◌, ◌≤◌, Bool, true, cond, ◌&&◌, eqb, ltb, leb, List, Option, sym, ◌∙◌, arith, inl, inr}
-use Rattle.std.proofs.lemmas.Bool.{cases_Bool}
+use Rattle.std.proofs.lemmas.Bool.{cases_Bool, true≢false}
 use Rattle.j39_network.specs.declared.plan.timing.Timing.{Timing}
 use Rattle.j39_load.specs.declared.frames.flow_frames.FlowFrames.{FlowFrames}
 use Rattle.j39_load.specs.PlannedFrames.{AreFramesInAnyOrder, KeepToQueueGroup, queue_group_of, others_of, planned_at}
@@ -17,11 +17,11 @@ use Rattle.j39_timing.specs.Sums.{total}
 use Rattle.j39_timing.proofs.Sums.{total-le}
 use Rattle.j39_vehicle_time_laws.specs.ForwardedStreams.{KeepsOtherwise, streams_of}
 
-module _ (timing : Timing) (all : List (Option FlowFrames)) (s : Schedule) (controllers : Controllers) (planned : ℕ → Bool) (of : Origins) (i : ℕ)
-    (keeps : KeepsOtherwise timing all s controllers planned of i) where
+module _ (timing : Timing) (ends : ℕ) (all : List (Option FlowFrames)) (s : Schedule) (controllers : Controllers) (planned : ℕ → Bool) (of : Origins) (i : ℕ)
+    (keeps : KeepsOtherwise timing ends all s controllers planned of i) where
   -- with the streams it is all that is asked
   pub with_streams : AreOfStreams s (λ p. planned p ≡ true) (streams_of timing all).count (streams_of timing all).stream of
-      → AreFramesInAnyOrder timing all s controllers planned of i
+      → AreFramesInAnyOrder timing ends all s controllers planned of i
   with_streams streams = record {
     known = record {
       longest_at_most = keeps.longest_at_most;
@@ -93,13 +93,16 @@ module _ (timing : Timing) (all : List (Option FlowFrames)) (s : Schedule) (cont
 
     -- ---- a queue group
 
-    module _ (queue_group : QueueGroup) (kept : KeepToQueueGroup timing s planned of queue_group) where
-      queue_group_then : KeepToQueueGroup timing then_seen then_planned of queue_group
+    module _ (queue_group : QueueGroup) (kept : KeepToQueueGroup timing ends s planned of queue_group) where
+      queue_group_then : KeepToQueueGroup timing ends then_seen then_planned of queue_group
       queue_group_then = record {
-        identifiers = λ p in_p. elim (cases_Bool (ltb (s.queued p) by)) [
-          | inl early ↦ rw (early) (kept.identifiers p in_p)
-          | inr late ↦ rw (late) (let few = timing.unplanned_priority_range in omega arith)
-        ];
+        identifiers = λ p in_p isnt early.
+            let same = own p early in
+            let few = kept.identifiers p in_p (elim (cases_Bool (planned p)) [
+              | inl is ↦ absurd (true≢false (sym (then_is_planned s planned by p is early) ∙ isnt))
+              | inr not_planned ↦ not_planned
+            ]) (omega (arith, seen, early)) in
+            omega (arith, few, same);
         own_identifiers = λ p q t in_p in_q before is has at_p at_q same.
             let (plain, early) = is_planned_then s planned by p is in
             let ready : s.queued q < by = let at = at_q.0 in omega arith in
@@ -114,7 +117,7 @@ module _ (timing : Timing) (all : List (Option FlowFrames)) (s : Schedule) (cont
             omega (arith, most, less);
       }
 
-    pub frames_then : AreFramesInAnyOrder timing all then_seen controllers then_planned of i
+    pub frames_then : AreFramesInAnyOrder timing ends all then_seen controllers then_planned of i
     frames_then = record {
       known = then_known s (streams_of timing all) (others_of timing) (longest_frame 8) planned of i by seen planned_then;
       of_unit = λ p in_p is un. keeps.of_unit p in_p (is_planned_then s planned by p is).0 un;
@@ -124,5 +127,5 @@ module _ (timing : Timing) (all : List (Option FlowFrames)) (s : Schedule) (cont
           let same = own p early in
           omega (arith, most, same);
       queue_groups =
-          λ j level goes kept is_level. queue_group_then (queue_group_of timing all (planned_at all j) level) (keeps.queue_groups j level goes kept is_level);
+          λ j level goes kept is_level. queue_group_then (queue_group_of timing ends all (planned_at all j) level) (keeps.queue_groups j level goes kept is_level);
     }

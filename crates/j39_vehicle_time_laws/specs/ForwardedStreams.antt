@@ -32,7 +32,7 @@ abbrev pub streams_of : Timing → List (Option FlowFrames) → Traffic
 streams_of timing all = traffic_of (all ++ damage_frames timing)
 
 -- as `AreFramesInAnyOrder` of `j39_load`, but that frames needn't be known to keep to their streams
-pub record KeepsOtherwise (timing : Timing) (all : List (Option FlowFrames)) (s : Schedule) (controllers : Controllers)
+pub record KeepsOtherwise (timing : Timing) (ends : ℕ) (all : List (Option FlowFrames)) (s : Schedule) (controllers : Controllers)
     (planned : ℕ → Bool) (of : Origins) (i : ℕ) : Type 0 where
   pub longest_at_most : (p : ℕ) → p < s.count → s.bits p ≤ longest_frame 8
   pub as_wanted : AreAsWanted s planned of (streams_of timing all).demands (streams_of timing all).stream
@@ -48,14 +48,14 @@ pub record KeepsOtherwise (timing : Timing) (all : List (Option FlowFrames)) (s 
   pub to_last : (p : ℕ) → p < s.count → planned p ≡ true → keep_order (planned_at all (of.source p)) ≡ false
       → s.ident p ≤ (planned_at all (of.source p)).last_ident
   pub queue_groups : (j level : ℕ) → (j ≡ i) ⊎ ((planned_at all j).least_ident < (planned_at all i).greatest_ident)
-      → keep_order (planned_at all j) ≡ false → IsQueueGroupLevel (leasts_of all) all (with_unplanned timing (planned_at all j)) level
-      → KeepToQueueGroup timing s planned of (queue_group_of timing all (planned_at all j) level)
+      → keep_order (planned_at all j) ≡ false → IsQueueGroupLevel (leasts_of all) all (with_unplanned timing ends (planned_at all j)) level
+      → KeepToQueueGroup timing ends s planned of (queue_group_of timing ends all (planned_at all j) level)
 
 -- ---- flows that are sent on directly
 
 -- the bus keeps to its plan, and its bits last as long as its clock can have them; but it isn't asked when messages are queued that are sent on directly, nor how far apart their releases are; and what
 -- holds while frames of a flow wait is asked of these flows alone
-pub record IsOtherwiseKept (v : Vehicle) (delays : Delays) (b : ℕ) (timing : Timing) (all : List (Option FlowFrames)) (flows : ℕ → Bool) (bus : SeenBus)
+pub record IsOtherwiseKept (v : Vehicle) (delays : Delays) (b : ℕ) (timing : Timing) (ends : ℕ) (all : List (Option FlowFrames)) (flows : ℕ → Bool) (bus : SeenBus)
     : Type 0 where
   pub clock : IsTrueTime timing bus.time
   pub legal : IsLegalInAnyOrder bus.schedule bus.controllers
@@ -76,12 +76,12 @@ pub record IsOtherwiseKept (v : Vehicle) (delays : Delays) (b : ℕ) (timing : T
       → flow_at v.buses.items (record { bus = b; flow = bus.of.source p }) ≡ Some flow → period_ms flow ≡ Some ms
       → (bus.release p + 1000 * ms * shortest_million timing ≤ bus.release q) ⊎ (bus.release q + 1000 * ms * shortest_million timing ≤ bus.release p)
   pub frames : (flow bits : ℕ) → flows flow ≡ true → slice_get (delays_on delays b) flow ≡ Some (Some (Within bits))
-      → KeepsOtherwise timing all bus.schedule bus.controllers bus.planned bus.of flow
+      → KeepsOtherwise timing ends all bus.schedule bus.controllers bus.planned bus.of flow
 
 -- so it is of each bus of the scope that has timing
 abbrev pub AreOtherwiseKept : Vehicle → Delays → Scope → SeenBuses → Type 0
 AreOtherwiseKept v delays scope seen = (b : ℕ) (timing : Timing) (of_bus : IsKnownBus v delays b timing) → scope.buses b ≡ true
-    → IsOtherwiseKept v delays b timing (frames_asked (asked_on of_bus)) (scope_on scope b) (seen b)
+    → IsOtherwiseKept v delays b timing (asked_on of_bus).unplanned_end (frames_asked (asked_on of_bus)) (scope_on scope b) (seen b)
 
 -- ---- what follows
 

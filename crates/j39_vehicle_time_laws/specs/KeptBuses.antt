@@ -37,7 +37,7 @@ pub record IsKeptBus (timing : Timing) (asked : Asked) (stated : List (Option De
   pub clock : IsTrueTime timing bus.time
   pub legal : IsLegalInAnyOrder bus.schedule bus.controllers
   pub frames : (flow bits : ℕ) → flows flow ≡ true → slice_get stated flow ≡ Some (Some (Within bits))
-      → AreFramesInAnyOrder timing (frames_asked asked) bus.schedule bus.controllers bus.planned bus.of flow
+      → AreFramesInAnyOrder timing asked.unplanned_end (frames_asked asked) bus.schedule bus.controllers bus.planned bus.of flow
 
 -- so it is of each bus of the scope that has timing
 abbrev pub AreKeptBuses : Vehicle → Delays → Scope → SeenBuses → Type 0

@@ -156,7 +156,7 @@ module _ (plan : Plan) (timing : Timing) (stays : UnitPlan → Bool) (states : D
   -- ---- one stream
 
   positive : (j : ℕ) → j < (traffic plan timing stays).count → 0 < (streams j).period
-  positive j below = positive_at timing (frames_asked (asked plan timing stays)) (all_paced timing plan stays) (all_sent timing plan stays) j below
+  positive j below = positive_at timing 0 (frames_asked (asked plan timing stays)) (all_paced timing plan stays) (all_sent timing plan stays) j below
 
   -- frames at one place
   pub at_lesser : (k i j : ℕ) → ((p : ℕ) → p < s.count → Counts k i p → place p ≡ j) → bits_at k i ≤ lesser_share demands (wait + 1) (streams j)

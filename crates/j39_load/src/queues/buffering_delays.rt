@@ -60,6 +60,7 @@ impl BufferingDelays {
 fn buffering_delay(
     alloc: Global,
     timing: Timing,
+    ends: u64,
     leasts: &[Option<u64>],
     demands: &[Wanted],
     all: &[Option<FlowFrames>],
@@ -71,12 +72,12 @@ fn buffering_delay(
     requires fit { All AreSoundIfAny all.now }
     requires few { length all.now ≤ 2000 }
     requires frames { AreSoundIfAny frames.now }
-    ensures bounded { IfOk result (IsBufferedFor timing all.now frames.now) }
+    ensures bounded { IfOk result (IsBufferedFor timing ends all.now frames.now) }
     ensures short { IfOk result IsShortWait }
 {
     match frames {
         Some(frames) if !keep_order(frames) => {
-            queue_group_wait(alloc, timing, leasts, demands, all, frames)
+            queue_group_wait(alloc, timing, ends, leasts, demands, all, frames)
         }
         _ => Ok(Some(0)),
     }
@@ -86,6 +87,7 @@ fn buffering_delay(
 fn waits_of(
     alloc: Global,
     timing: Timing,
+    ends: u64,
     demands: &[Wanted],
     all: &[Option<FlowFrames>],
 ) -> Result<Vec<Option<u32>>, AllocError>
@@ -93,13 +95,13 @@ fn waits_of(
     requires sound { All IsWanted demands.now }
     requires fit { All AreSoundIfAny all.now }
     requires few { length all.now ≤ 2000 }
-    ensures bounded { IfOk result (λ waits. AreBufferingDelays timing all.now waits.items) }
+    ensures bounded { IfOk result (λ waits. AreBufferingDelays timing ends all.now waits.items) }
     ensures short { IfOk result (λ waits. All IsShortWait waits.items) }
 {
     let leasts = leasts_of(alloc, all)?;
     let mut waits = Vec::new(alloc);
     for frames in all {
-        let wait = buffering_delay(alloc, timing, leasts.as_slice(), demands, all, frames)?;
+        let wait = buffering_delay(alloc, timing, ends, leasts.as_slice(), demands, all, frames)?;
         waits.push(wait)?;
     }
     Ok(waits)
@@ -204,15 +206,16 @@ fn least_unbounded(waits: &[Option<u32>], all: &[Option<FlowFrames>]) -> Option<
 pub(crate) fn buffering_delays_of(
     alloc: Global,
     timing: Timing,
+    ends: u64,
     all: &[Option<FlowFrames>],
 ) -> Result<BufferingDelays, AllocError>
     requires fit { All AreSoundIfAny all.now }
     requires few { length all.now ≤ 2000 }
-    ensures buffering { IfOk result (λ buffering_delays. IsBuffering timing all.now (buffering_of buffering_delays)) }
+    ensures buffering { IfOk result (λ buffering_delays. IsBuffering timing ends all.now (buffering_of buffering_delays)) }
     ensures fit { IfOk result AreFitBufferingDelays }
 {
     let demands = demands_of(alloc, all)?;
-    let waits = waits_of(alloc, timing, demands.as_slice(), all)?;
+    let waits = waits_of(alloc, timing, ends, demands.as_slice(), all)?;
     let frames = buffered(alloc, waits.as_slice(), all)?;
     let least = least_unbounded(waits.as_slice(), all);
     Ok(BufferingDelays {

@@ -13,7 +13,7 @@ ghost use Rattle.j39_load.specs.SoundLoads.{AreSoundIfAny};
 ghost use Rattle.j39_timing.specs.Waits.{IsStream, IsWanted, as_demand};
 
 use crate::findings::smaller;
-use crate::frames::{FlowFrames, IDENT_END, add_damage, bits_of_ms};
+use crate::frames::{FlowFrames, add_damage, bits_of_ms};
 use j39_id::limits::UNIT_LIMIT;
 use j39_network::Timing;
 use j39_timing::{Stream, Wanted, frame_bits, least_wait};
@@ -169,14 +169,15 @@ fn queue_group_level(leasts: &[Option<u64>], all: &[Option<FlowFrames>], own: &F
     level
 }
 
-// Frames of a unit in which one with any identifier may wait that isn't planned, where there are such frames.
-fn with_unplanned(timing: Timing, own: &FlowFrames) -> FlowFrames
-    ensures { result ≡ with_unplanned timing own.now }
+// Frames of a unit in which one may wait that isn't planned, with an identifier below this end, where there are such
+// frames.
+fn with_unplanned(timing: Timing, ends: u64, own: &FlowFrames) -> FlowFrames
+    ensures { result ≡ with_unplanned timing ends own.now }
 {
     let last_ident = if timing.unplanned == 0 {
         own.last_ident
     } else {
-        IDENT_END
+        own.last_ident.max(ends)
     };
     FlowFrames { last_ident, ..*own }
 }
@@ -232,6 +233,7 @@ fn streams_with(
 pub(crate) fn queue_group_wait(
     alloc: Global,
     timing: Timing,
+    ends: u64,
     leasts: &[Option<u64>],
     demands: &[Wanted],
     all: &[Option<FlowFrames>],
@@ -242,10 +244,10 @@ pub(crate) fn queue_group_wait(
     requires demands { map as_demand demands.now ≡ demands_of all.now }
     requires sound { All IsWanted demands.now }
     requires bits { own.now.stream.bits ≤ 160 }
-    ensures wait { IfOk result (IsQueueGroupWait timing leasts.now all.now own.now) }
+    ensures wait { IfOk result (IsQueueGroupWait timing ends leasts.now all.now own.now) }
     ensures short { IfOk result (λ wait. ForSome wait (λ bits. bits < 2 ^ 27)) }
 {
-    let with = with_unplanned(timing, own);
+    let with = with_unplanned(timing, ends, own);
     let level = queue_group_level(leasts, all, &with);
     let streams = streams_with(alloc, timing, leasts, all, &with, level)?;
     let most = bits_of_ms(timing, 65_535);

@@ -380,7 +380,7 @@ impl Loads {
     ) -> Result<Option<Delay>, AllocError>
         requires place { flow < length self.now.flows.items }
         requires buffering_delays { AreFitBufferingDelays buffering_delays.now }
-        requires is { IsBuffering self.now.timing (frames_asked (asked_in self.now)) (buffering_of buffering_delays.now) }
+        requires is { IsBuffering self.now.timing self.now.unplanned_end (frames_asked (asked_in self.now)) (buffering_of buffering_delays.now) }
         requires turns { AreTurns self.now.timing (asked_in self.now) (buffering_of buffering_delays.now) turns.now }
         requires short { AreShortTurns turns.now }
         ensures { IfOk result (HasDelay self.now.timing (asked_in self.now) flow) }
@@ -408,7 +408,12 @@ impl Loads {
             return Ok(Vec::new(alloc));
         }
         let all = self.all_frames(alloc)?;
-        let buffering_delays = buffering_delays_of(alloc, self.timing, all.as_slice())?;
+        let buffering_delays = buffering_delays_of(
+            alloc,
+            self.timing,
+            self.unplanned_end,
+            all.as_slice(),
+        )?;
         let turns = self.turns(alloc, &buffering_delays)?;
         let mut delays = Vec::with_capacity(alloc, self.flows.len())?;
         for flow in 0..self.flows.len() {

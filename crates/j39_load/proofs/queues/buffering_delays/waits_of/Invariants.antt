@@ -6,4 +6,4 @@ use Rattle.j39_load.proofs.StatedPlaces.{AreReported}
 use Rattle.j39_load.proofs.queues.buffering_delays.waits_of.Given as goal
 
 abbrev pub invariant-loop-frames : goal.invariant-loop-frames
-invariant-loop-frames l = AreReported (λ (j : ℕ). IsBufferedFor l.timing l.all (slice_index_or l.all j None)) IsShortWait l.frames-index l.waits.items
+invariant-loop-frames l = AreReported (λ (j : ℕ). IsBufferedFor l.timing l.ends l.all (slice_index_or l.all j None)) IsShortWait l.frames-index l.waits.items
