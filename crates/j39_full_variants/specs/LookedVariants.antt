@@ -1,11 +1,13 @@
 -- At which full variants of a line is looked, and that there may be too many.
-use Rattle.std.specs.Prelude.{◌≡◌, ◌≢◌, ◌⊎◌, ℕ, ◌-◌, ◌^◌, ◌<◌, ◌≤◌, Bool, true, false, [], map, min}
+use Rattle.std.specs.Prelude.{◌≡◌, ◌≢◌, ◌⊎◌, ℕ, ◌-◌, ◌^◌, ◌<◌, ◌≤◌, Bool, true, false, [], map, min, None}
 use Rattle.std.specs.List.{list_any}
 use Rattle.j39_findings.specs.Found.{found}
 use Rattle.j39_findings.specs.declared.checking.finding.Finding.{Finding}
 use Rattle.j39_findings.specs.declared.checking.finding.Finding.TheVariants.{BadPgn}
+use Rattle.j39_load.specs.BusTimes.{timing_of}
 use Rattle.j39_network.specs.declared.plan.Plan.{Plan}
 use Rattle.j39_variants.specs.declared.line.ProductLine.{ProductLine}
+use Rattle.j39_line_bounds.specs.LineTimes.{AreTimesAmong}
 use Rattle.j39_line_findings.specs.FullVariants.{AreFullAlternatives, line_with}
 use Rattle.j39_line_findings.specs.declared.full.FullAlternatives.{FullAlternatives}
 use Rattle.j39_line_findings.specs.declared.full.LineNevers.{LineNevers}
@@ -61,3 +63,8 @@ abbrev pub IsLooking : ProductLine → Looking → Type 0
 IsLooking line (Few x) = IsLookingWith line Kept (Few x)
     ⊎ (((n : ℕ) × AreManyVariants line Kept n) × IsLookingWith line LeftOut (Few x) × (x.reported.items ≡ []) × (has_bad_number line.plan ≡ false))
 IsLooking line (Many m) = IsLookingWith line Kept (Many m) × IsOfNoUse line
+
+-- those that are looked at have these times, where the bus of the line is known
+abbrev pub HasTimes : ProductLine → Looking → Type 0
+HasTimes line (Few x) = timing_of line.plan ≢ None → AreTimesAmong line (map (λ v. v.items) x.variants.items) x.times
+HasTimes line (Many m) = Unit {0}

@@ -1,12 +1,13 @@
 //! At which full variants of a line is looked.
-ghost use Rattle.std.specs.Prelude.{◌≡◌, IfOk};
+ghost use Rattle.std.specs.Prelude.{◌≡◌, IfOk, true};
 ghost use Rattle.j39_line_findings.specs.declared.full.LineNevers.TheVariants.{Kept};
-ghost use Rattle.j39_full_variants.specs.LookedVariants.{IsLooking, IsLookingWith, has_bad_number, is_bad_number};
+ghost use Rattle.j39_full_variants.specs.LookedVariants.{IsLooking, IsLookingWith, HasTimes, has_bad_number, is_bad_number};
 ghost use Rattle.j39_full_variants.specs.declared.looking.Looking.TheVariants.{Many};
 
 use crate::counted::counted_findings;
 use crate::full_sets::{looked_at, number_of_variants, widest_sets};
 use j39_findings::{Finding, check};
+use j39_line_bounds::LineTimes;
 use j39_line_findings::{FullAlternatives, LineNevers, Witnessed, alternatives_of};
 use j39_network::Plan;
 use j39_variants::ProductLine;
@@ -24,6 +25,8 @@ pub struct FullVariants {
     pub variants: Vec<Vec<usize>>,
     /// Each finding by the place of its witness among the variants.
     pub reported: Vec<Witnessed>,
+    /// What is reported of their times, where these are asked for.
+    pub times: LineTimes,
 }
 
 /// Which full variants of a line are looked at.
@@ -36,8 +39,14 @@ pub enum Looking {
 }
 
 // The full variants of a line, with or without its nevers.
-fn look_with(alloc: Global, line: &ProductLine, nevers: LineNevers) -> Result<Looking, AllocError>
-    ensures { IfOk result (IsLookingWith line.now nevers) }
+fn look_with(
+    alloc: Global,
+    line: &ProductLine,
+    nevers: LineNevers,
+    timed: bool,
+) -> Result<Looking, AllocError>
+    ensures looking { IfOk result (IsLookingWith line.now nevers) }
+    ensures times { timed ≡ true → IfOk result (HasTimes line.now) }
 {
     let alternatives = alternatives_of(alloc, line)?;
     let full = FullAlternatives::new(alloc, line, nevers, &alternatives)?;
@@ -47,11 +56,12 @@ fn look_with(alloc: Global, line: &ProductLine, nevers: LineNevers) -> Result<Lo
         return Ok(Looking::Many(count));
     }
     let variants = looked_at(alloc, line, nevers, &sets)?;
-    let reported = counted_findings(alloc, line, &full, &variants)?;
+    let (reported, times) = counted_findings(alloc, line, &full, &variants, timed)?;
     Ok(Looking::Few(FullVariants {
         full,
         variants,
         reported,
+        times,
     }))
 }
 
@@ -70,14 +80,20 @@ fn has_bad_number(alloc: Global, plan: &Plan) -> Result<bool, AllocError>
 }
 
 // The same of a line that has too many full variants, where those of it without its nevers stand in for them.
-fn look_without_nevers(alloc: Global, line: &ProductLine, count: u64) -> Result<Looking, AllocError>
-    ensures { IfOk result (λ looking. IsLookingWith line.now Kept (Many count) → IsLooking line.now looking) }
+fn look_without_nevers(
+    alloc: Global,
+    line: &ProductLine,
+    count: u64,
+    timed: bool,
+) -> Result<Looking, AllocError>
+    ensures looking { IfOk result (λ looking. IsLookingWith line.now Kept (Many count) → IsLooking line.now looking) }
+    ensures times { timed ≡ true → IfOk result (HasTimes line.now) }
 {
     let bad = has_bad_number(alloc, &line.plan)?;
     if bad {
         return Ok(Looking::Many(count));
     }
-    match look_with(alloc, line, LineNevers::LeftOut)? {
+    match look_with(alloc, line, LineNevers::LeftOut, timed)? {
         Looking::Few(found) => {
             if found.reported.is_empty() {
                 return Ok(Looking::Few(found));
@@ -89,12 +105,14 @@ fn look_without_nevers(alloc: Global, line: &ProductLine, count: u64) -> Result<
 }
 
 /// The full variants of a line, and what is found of them. Where they are too many, those of the line without its nevers,
-/// where these aren't, nothing is found of them, and no group of the file has a bad number.
-pub fn look(alloc: Global, line: &ProductLine) -> Result<Looking, AllocError>
-    ensures { IfOk result (IsLooking line.now) }
+/// where these aren't, nothing is found of them, and no group of the file has a bad number. With what is reported of
+/// their times, where these are asked for.
+pub fn look(alloc: Global, line: &ProductLine, timed: bool) -> Result<Looking, AllocError>
+    ensures looking { IfOk result (IsLooking line.now) }
+    ensures times { timed ≡ true → IfOk result (HasTimes line.now) }
 {
-    match look_with(alloc, line, LineNevers::Kept)? {
+    match look_with(alloc, line, LineNevers::Kept, timed)? {
         Looking::Few(found) => Ok(Looking::Few(found)),
-        Looking::Many(count) => look_without_nevers(alloc, line, count),
+        Looking::Many(count) => look_without_nevers(alloc, line, count, timed),
     }
 }

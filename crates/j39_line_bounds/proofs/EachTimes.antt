@@ -5,6 +5,9 @@ use Rattle.std.specs.Option.{option_map}
 use Rattle.std.proofs.lemmas.Option.{none-some}
 use Rattle.std.proofs.lemmas.List.{map-append, take_more}
 use Rattle.std.proofs.lemmas.List.FromFn.{get_or-map-range_with_len, length-map-range_with_len}
+use Rattle.j39_answer.proofs.Answered.{unknown_bus}
+use Rattle.j39_answer.specs.PlanAnswers.{IsBusAnswer, IsPlanAnswer}
+use Rattle.j39_answer.specs.declared.plan_answer.PlanAnswer.{PlanAnswer}
 use Rattle.j39_load.specs.Asked.{total_load}
 use Rattle.j39_load.specs.AskedLoads.{asked_in}
 use Rattle.j39_load.specs.BusTimes.{timing_of, with_claims}
@@ -53,6 +56,10 @@ reported_of line v there plan timing answer reported is_there is timed is_answer
           ap (λ xs. get_or xs d need.NoVariant) needs ∙ get_or-map-range_with_len need_here 0 m d d need.NoVariant below first;
       load = load ∙ ap (λ t. total_load t (asked_in answer.loads)) is_answer.timed ∙ ap (total_load timing) is_answer.asked;
     }
+
+-- nothing is known of the bus of a plan of whose load nothing is
+pub unanswered : (plan : Plan) (known : PlanAnswer) → IsPlanAnswer plan known → known.load ≡ None → timing_of plan ≡ None
+unanswered plan known is none = unknown_bus plan (timing_of plan) (subst (IsBusAnswer plan (timing_of plan)) none is.bus)
 
 -- nothing is known of the bus of a variant where nothing is of that of the line
 pub untimed : (line plan : Plan) (t : Option Timing) → plan.timing ≡ t → line.timing ≡ t → timing_of plan ≡ None → timing_of line ≡ None

@@ -9,4 +9,4 @@ pub use laws::{
     reported_numbers_bound_times, standings_are_exact, times_bound_these, units_have_one_standing,
 };
 pub use standing::{LineStanding, line_standings};
-pub use times::{FlowTime, LineTimes, NeedTime, line_times};
+pub use times::{FlowTime, LineTimes, NeedTime, no_times, times_with};

@@ -1,18 +1,19 @@
 //! Times of the flows, ages of what is needed, and the load of a line of vehicles: the greatest of some of its variants.
 ghost use Rattle.std.specs.Prelude.{◌≡◌, ◌≢◌, ◌∷◌, ◌++◌, [], ℕ, List, IfOk, None, Some, length, map};
+ghost use Rattle.j39_answer.specs.PlanAnswers.{IsBusAnswer};
 ghost use Rattle.std.specs.List.{range_with_len};
 ghost use Rattle.j39_load.specs.BusTimes.{timing_of};
-ghost use Rattle.j39_variants.specs.VariantPlans.{IsVariantPlan};
+ghost use Rattle.j39_line_findings.specs.VariantAnswers.{IsVariantAnswer};
 ghost use Rattle.j39_variants.specs.declared.line.ProductLine.{ProductLine as ALine};
 ghost use Rattle.j39_line_bounds.specs.declared.times.LineTimes.{LineTimes as Times};
 ghost use Rattle.j39_line_bounds.specs.LineTimes.{AreTimesAmong, AreVariantTimes, AreWorst, time_of_flow, time_of_need, worse, youngest_here};
 ghost use Rattle.j39_line_bounds.specs.LineTimes.{age_here, of_degree, badness_known, delay_badness, flow_badness, flow_time};
 ghost use Rattle.j39_line_bounds.specs.LineTimes.{is_less_bad, need_badness, need_time, place_in_variant, time_reported};
 
-use j39_line_findings::{WhatIsThere, is_need_asked_for, place_in_file};
-use j39_load::{Delay, LoadAnswer, WholeTime, has_several, least_age, timing_of, youngest_flow};
+use j39_line_findings::{VariantAnswer, WhatIsThere, is_need_asked_for, place_in_file};
+use j39_load::{Delay, LoadAnswer, WholeTime, has_several, least_age, youngest_flow};
 use j39_network::{NeedPlan, Plan, Timing, is_met};
-use j39_variants::{ProductLine, plan_of};
+use j39_variants::ProductLine;
 use std::alloc::{AllocError, Global};
 
 /// What is reported of a flow of a line, in some of its variants.
@@ -240,30 +241,30 @@ impl VariantLoad<'_> {
     }
 }
 
-// What is reported of a variant of a line with this timing.
+// What is reported of a variant of a line of which this is known, with this load.
 fn variant_times(
     alloc: Global,
     line: &ProductLine,
     variant: &[usize],
-    timing: Timing,
-    plan: &Plan,
+    known: &VariantAnswer,
+    load: &LoadAnswer,
 ) -> Result<LineTimes, AllocError>
-    ensures { IfOk result (λ times. IsVariantPlan line.now variant.now plan.now → timing_of plan.now ≡ Some timing → AreVariantTimes line.now variant.now times) }
+    requires known { IsVariantAnswer line.now variant.now known.now }
+    requires load { IsBusAnswer known.now.plan (timing_of known.now.plan) (Some load.now) }
+    ensures { IfOk result (AreVariantTimes line.now variant.now) }
 {
-    let there = WhatIsThere::new(alloc, line, variant)?;
-    let answer = LoadAnswer::new(alloc, timing, plan)?;
     let reported = VariantLoad {
         line,
         variant,
-        there: &there,
-        plan,
-        timing,
-        delays: &answer.delays,
+        there: &known.there,
+        plan: &known.plan,
+        timing: load.loads.timing,
+        delays: &load.delays,
     };
     Ok(LineTimes {
         flows: reported.flow_times(alloc)?,
         needs: reported.need_times(alloc)?,
-        load: answer.loads.total(),
+        load: load.loads.total(),
     })
 }
 
@@ -322,7 +323,6 @@ fn worse(alloc: Global, one: &LineTimes, other: &LineTimes) -> Result<LineTimes,
     })
 }
 
-// What is reported of no variant.
 fn nothing(alloc: Global, line: &ProductLine) -> Result<LineTimes, AllocError>
     ensures { IfOk result (AreWorst line.now []) }
 {
@@ -343,37 +343,31 @@ fn nothing(alloc: Global, line: &ProductLine) -> Result<LineTimes, AllocError>
     })
 }
 
-// With one variant more.
-fn times_with(
-    alloc: Global,
-    line: &ProductLine,
-    variant: &[usize],
-    so_far: LineTimes,
-) -> Result<LineTimes, AllocError>
-    ensures { IfOk result (λ times. (variants : List (List ℕ)) → timing_of line.now.plan ≢ None → AreTimesAmong line.now variants so_far
-        → AreTimesAmong line.now (variants ++ variant.now ∷ []) times) }
+/// What is reported of no variant.
+pub fn no_times(alloc: Global, line: &ProductLine) -> Result<LineTimes, AllocError>
+    ensures { IfOk result (AreTimesAmong line.now []) }
 {
-    let plan = plan_of(alloc, line, variant)?;
-    let Some(timing) = timing_of(&plan) else {
-        return Ok(so_far);
-    };
-    let here = variant_times(alloc, line, variant, timing, &plan)?;
-    let times = worse(alloc, &so_far, &here)?;
+    let times = nothing(alloc, line)?;
     Ok(times)
 }
 
-/// What is reported of each flow and each need of a line whose bus is known, and its load, in these variants: the places of the
-/// alternatives that each takes, choice by choice.
-pub fn line_times(
+/// What is reported of each flow and each need of a line whose bus is known, and its load, in one variant more: the places of
+/// the alternatives that it takes, choice by choice, with all that is known of it.
+pub fn times_with(
     alloc: Global,
     line: &ProductLine,
-    variants: &[Vec<usize>],
+    variant: &[usize],
+    known: &VariantAnswer,
+    so_far: LineTimes,
 ) -> Result<LineTimes, AllocError>
-    ensures { IfOk result (λ times. timing_of line.now.plan ≢ None → AreTimesAmong line.now (map (λ v. v.items) variants.now) times) }
+    requires { IsVariantAnswer line.now variant.now known.now }
+    ensures { IfOk result (λ times. (variants : List (List ℕ)) → timing_of line.now.plan ≢ None → AreTimesAmong line.now variants so_far
+        → AreTimesAmong line.now (variants ++ variant.now ∷ []) times) }
 {
-    let mut times = nothing(alloc, line)?;
-    for variant in variants {
-        times = times_with(alloc, line, variant, times)?;
-    }
+    let Some(load) = &known.answer.load else {
+        return Ok(so_far);
+    };
+    let here = variant_times(alloc, line, variant, known, load)?;
+    let times = worse(alloc, &so_far, &here)?;
     Ok(times)
 }

@@ -1,2 +1,3 @@
 pub mod LineChecks
+pub mod LookedTimes
 pub mod inside

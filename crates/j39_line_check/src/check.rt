@@ -1,7 +1,8 @@
 //! What is found of a line.
-ghost use Rattle.std.specs.Prelude.{◌≡◌, ◌++◌, [], List, IfOk, OnOk, map, unwrap_or};
+ghost use Rattle.std.specs.Prelude.{◌≡◌, ◌++◌, [], List, IfOk, OnOk, map, true, unwrap_or};
 ghost use Rattle.std.specs.List.{slice_get};
 ghost use Rattle.j39_line_check.specs.LineChecks.{IsCheckOf, SomePossible};
+ghost use Rattle.j39_line_check.specs.LookedTimes.{AreAnsweredTimes};
 ghost use Rattle.j39_line_check.specs.inside.AddedFindings.{AreAdded, Pair, pair_counted, pair_of_condition};
 
 use crate::answer::{LineAnswer, LookedAt, ReportedFinding};
@@ -11,6 +12,7 @@ use j39_full_variant_laws::{
     old_needs_are_found_of_full_variants,
 };
 use j39_full_variants::{FullVariants, Looking, look};
+use j39_line_bounds::{LineTimes, no_times};
 use j39_line_condition_laws::what_is_there_is_found;
 use j39_line_findings::Witnessed;
 use j39_line_witness_laws::what_is_reported_is_what_variants_have;
@@ -96,9 +98,15 @@ fn reported_of_full(
     Ok(reported)
 }
 
-// What is found of a line of which some variant is possible.
-fn found_of(alloc: Global, line: &ProductLine) -> Result<LineAnswer, AllocError>
-    ensures { IfOk result (λ answer. SomePossible line.now → IsCheckOf line.now answer) }
+// What is found of a line of which some variant is possible, with the times of those at which is looked, where these are
+// asked for.
+fn found_of(
+    alloc: Global,
+    line: &ProductLine,
+    timed: bool,
+) -> Result<(LineAnswer, LineTimes), AllocError>
+    ensures answer { IfOk result (λ found. SomePossible line.now → IsCheckOf line.now found.0) }
+    ensures times { timed ≡ true → IfOk result (λ found. AreAnsweredTimes line.now found.0 found.1) }
 {
     what_is_reported_is_what_variants_have();
     full_variants_have_what_is_found();
@@ -106,26 +114,56 @@ fn found_of(alloc: Global, line: &ProductLine) -> Result<LineAnswer, AllocError>
     nevers_change_nothing_that_is_built();
     what_is_there_is_found();
     let found = found_by_conditions(alloc, line)?;
-    match look(alloc, line)? {
+    match look(alloc, line, timed)? {
         Looking::Few(full) => {
             let reported = reported_of_full(alloc, &found, &full)?;
-            Ok(LineAnswer::Found(reported, LookedAt::Full(full.variants)))
+            let answer = LineAnswer::Found(reported, LookedAt::Full(full.variants));
+            Ok((answer, full.times))
         }
         Looking::Many(count) => {
             let reported = reported_by_conditions(alloc, &found)?;
-            Ok(LineAnswer::Found(reported, LookedAt::TooMany(count)))
+            let times = no_times(alloc, line)?;
+            let answer = LineAnswer::Found(reported, LookedAt::TooMany(count));
+            Ok((answer, times))
         }
     }
+}
+
+// What is found of a line, with the times of the variants at which is looked, where these are asked for.
+fn answer_line(
+    alloc: Global,
+    line: &ProductLine,
+    timed: bool,
+) -> Result<(LineAnswer, LineTimes), AllocError>
+    ensures answer { IfOk result (λ found. IsCheckOf line.now found.0) }
+    ensures times { timed ≡ true → IfOk result (λ found. AreAnsweredTimes line.now found.0 found.1) }
+{
+    let possible = is_any_variant_possible(alloc, line)?;
+    if possible {
+        let found = found_of(alloc, line, timed)?;
+        return Ok(found);
+    }
+    let times = no_times(alloc, line)?;
+    Ok((LineAnswer::NoVariant, times))
 }
 
 /// What is found of a line of vehicles: what some possible variant has, each finding once, with a variant that has it.
 pub fn check_line(alloc: Global, line: &ProductLine) -> Result<LineAnswer, AllocError>
     ensures { IfOk result (IsCheckOf line.now) }
 {
-    let possible = is_any_variant_possible(alloc, line)?;
-    if possible {
-        let answer = found_of(alloc, line)?;
-        return Ok(answer);
-    }
-    Ok(LineAnswer::NoVariant)
+    let (answer, _times) = answer_line(alloc, line, false)?;
+    Ok(answer)
+}
+
+/// The same, with the times of the variants at which is looked, where the bus of the line is known: each of these variants is
+/// answered once for both.
+pub fn check_line_with_times(
+    alloc: Global,
+    line: &ProductLine,
+) -> Result<(LineAnswer, LineTimes), AllocError>
+    ensures answer { IfOk result (λ found. IsCheckOf line.now found.0) }
+    ensures times { IfOk result (λ found. AreAnsweredTimes line.now found.0 found.1) }
+{
+    let found = answer_line(alloc, line, true)?;
+    Ok(found)
 }

@@ -7,5 +7,5 @@ mod inserting;
 mod laws;
 
 pub use answer::{LineAnswer, LookedAt, ReportedFinding};
-pub use check::check_line;
+pub use check::{check_line, check_line_with_times};
 pub use laws::nothing_reported_is_nothing_found;

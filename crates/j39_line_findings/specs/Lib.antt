@@ -9,4 +9,5 @@ pub mod LineFound
 pub mod MissedNeeds
 pub mod PossibleVariants
 pub mod There
+pub mod VariantAnswers
 pub mod Reported

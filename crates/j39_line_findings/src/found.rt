@@ -1,14 +1,17 @@
-//! Everything that is wrong with the plan of a variant of a line of vehicles.
+//! All that is known of a variant of a line of vehicles.
 ghost use Rattle.std.specs.Prelude.{◌≡◌, IfOk, map};
 ghost use Rattle.j39_line_findings.specs.LineFound.{AreVariantFindings};
+ghost use Rattle.j39_line_findings.specs.VariantAnswers.{IsVariantAnswer};
 ghost use Rattle.j39_line_findings.specs.InFile.{finding_in_file, load_finding_in_file};
 ghost use Rattle.j39_line_findings.specs.declared.line_finding.LineFinding.TheVariants.{OfPlan, OfLoad};
 ghost use Rattle.j39_findings.specs.declared.checking.finding.Finding.TheVariants.{NeedUnmet};
 
 use crate::line_finding::{LineFinding, finding_in_file, load_finding_in_file};
 use crate::there::{WhatIsThere, missed_needs};
-use j39_findings::{Finding, check};
-use j39_load::{LoadFinding, check_load};
+use j39_answer::PlanAnswer;
+use j39_findings::Finding;
+use j39_load::LoadFinding;
+use j39_network::Plan;
 use j39_variants::{ProductLine, plan_of};
 use std::alloc::{AllocError, Global};
 
@@ -47,21 +50,45 @@ fn missed(alloc: Global, needs: &[usize]) -> Result<Vec<LineFinding>, AllocError
         .collect(alloc)
 }
 
-/// What is wrong with the plan of a variant, at its places in the file, and each need that is asked for and isn't in it.
-pub fn variant_findings(
-    alloc: Global,
-    line: &ProductLine,
-    variant: &[usize],
-) -> Result<Vec<LineFinding>, AllocError>
-    ensures { IfOk result (λ v. AreVariantFindings line.now variant.now v.items) }
-{
-    let plan = plan_of(alloc, line, variant)?;
-    let there = WhatIsThere::new(alloc, line, variant)?;
-    let found = check(alloc, &plan)?;
-    let others = check_load(alloc, &plan)?;
-    let needs = missed_needs(alloc, line, variant)?;
-    let mut findings = in_file(alloc, &there, &found)?;
-    findings.extend_from_slice(&others_in_file(alloc, &there, &others)?)?;
-    findings.extend_from_slice(&missed(alloc, &needs)?)?;
-    Ok(findings)
+/// The plan of a variant, all that is known of this plan, and what of the file is there.
+#[derive(Drop)]
+pub struct VariantAnswer {
+    pub there: WhatIsThere,
+    pub plan: Plan,
+    pub answer: PlanAnswer,
+}
+
+impl VariantAnswer {
+    /// What is known of a variant: the places of the alternatives that it takes, choice by choice.
+    pub fn new(alloc: Global, line: &ProductLine, variant: &[usize]) -> Result<Self, AllocError>
+        ensures { IfOk result (IsVariantAnswer line.now variant.now) }
+    {
+        let plan = plan_of(alloc, line, variant)?;
+        let there = WhatIsThere::new(alloc, line, variant)?;
+        let answer = PlanAnswer::new(alloc, &plan)?;
+        Ok(VariantAnswer {
+            there,
+            plan,
+            answer,
+        })
+    }
+
+    /// What is wrong with the plan of the variant of which this is known, at its places in the file, and each need that is
+    /// asked for and isn't in it.
+    pub fn findings(
+        &self,
+        alloc: Global,
+        line: &ProductLine,
+        variant: &[usize],
+    ) -> Result<Vec<LineFinding>, AllocError>
+        requires { IsVariantAnswer line.now variant.now self.now }
+        ensures { IfOk result (λ v. AreVariantFindings line.now variant.now v.items) }
+    {
+        let others = self.answer.load_findings();
+        let needs = missed_needs(alloc, line, variant)?;
+        let mut findings = in_file(alloc, &self.there, &self.answer.findings)?;
+        findings.extend_from_slice(&others_in_file(alloc, &self.there, others)?)?;
+        findings.extend_from_slice(&missed(alloc, &needs)?)?;
+        Ok(findings)
+    }
 }

@@ -13,7 +13,7 @@ mod there;
 mod witnessed;
 
 pub use enumeration::longer;
-pub use found::variant_findings;
+pub use found::VariantAnswer;
 pub use full::{FullAlternatives, LineNevers, alternatives_of, does_bring};
 pub use line_finding::LineFinding;
 pub use missed_needs::{is_need_asked_for, is_unit_there};

@@ -1,4 +1,5 @@
 pub mod CertifiedVariants
 pub mod LineTimings
+pub mod LookedTimes
 pub mod NothingHides
 pub mod UnmetNeeds

@@ -1,19 +1,21 @@
 //! What the load command writes.
 ghost use Rattle.std.specs.Prelude.{◌≡◌, IfOk, Some};
+ghost use Rattle.j39_line_check.specs.LookedTimes.{AreLookedTimes};
 ghost use Rattle.j39_load.specs.BusTimes.{timing_of};
 ghost use Rattle.j39_line_text.specs.Hindrances.{AreReportedAt, IsShownLine};
 ghost use Rattle.j39_line_text.specs.LineLoadText.{IsLineLoadReport, IsLineLoadText, IsTimesReport, ReportsLineTiming, line_load_verdict};
+ghost use Rattle.j39_line_check.specs.declared.answer.LookedAt.{LookedAt as Looked};
 ghost use Rattle.j39_line_text.specs.declared.hindrances.Asked.TheVariants.{Times};
 ghost use Rattle.j39_stream.specs.CommandEnds.{AnswersWhole, IsOfAny};
 ghost use Rattle.j39_stream.specs.Streams.{plan_limits};
 
-use crate::hindrances::{Asked, is_hidden, variants_at};
+use crate::hindrances::{Asked, is_hidden};
 use crate::line_report::no_variant_text;
 use crate::shown_times::shown_times;
 use crate::time_lines::write_times;
 use crate::witness_lines::{findings_text, write_unshown};
-use j39_line_bounds::{line_times, times_bound_these};
-use j39_line_check::{LineAnswer, LookedAt, ReportedFinding, check_line};
+use j39_line_bounds::{LineTimes, times_bound_these};
+use j39_line_check::{LineAnswer, LookedAt, ReportedFinding, check_line_with_times};
 use j39_load::timing_of;
 use j39_network::Timing;
 use j39_plan_text::{LineReport, load_report, report_text};
@@ -38,14 +40,13 @@ fn times_report(
     line: &ProductLine,
     timing: Timing,
     reported: &[ReportedFinding],
-    looked: &LookedAt,
+    times: &LineTimes,
 ) -> ReportResult
-    ensures { IfOk result (λ report. timing_of line.now.plan ≡ Some timing → IsShownLine Times line.now looked.now reported.now
-        → IsTimesReport line.now timing report.0 report.1) }
+    ensures { IfOk result (λ report. (looked : Looked) → timing_of line.now.plan ≡ Some timing → IsShownLine Times line.now looked reported.now
+        → AreLookedTimes line.now looked times.now → IsTimesReport line.now timing report.0 report.1) }
 {
     times_bound_these();
-    let times = line_times(alloc, line, variants_at(looked))?;
-    let shown = shown_times(alloc, line, &times, reported)?;
+    let shown = shown_times(alloc, line, times, reported)?;
     let mut text = TextBuffer::new(alloc);
     write_times(&mut text, &line.plan, timing, &shown)?;
     write_unshown(alloc, &mut text, line, reported)?;
@@ -59,16 +60,17 @@ fn found_load(
     timing: Timing,
     reported: &[ReportedFinding],
     looked: &LookedAt,
+    times: &LineTimes,
 ) -> ReportResult
     ensures { IfOk result (λ report. timing_of line.now.plan ≡ Some timing → AreReportedAt line.now looked.now reported.now
-        → IsLineLoadReport line.now timing report.0 report.1) }
+        → AreLookedTimes line.now looked.now times.now → IsLineLoadReport line.now timing report.0 report.1) }
 {
     let many = looked.many();
     if is_hidden(Asked::Times, reported, many) {
         let text = findings_text(alloc, line, reported, many)?;
         return Ok((text, Verdict::Findings));
     }
-    let report = times_report(alloc, line, timing, reported, looked)?;
+    let report = times_report(alloc, line, timing, reported, times)?;
     Ok(report)
 }
 
@@ -76,14 +78,14 @@ fn found_load(
 fn line_load(alloc: Global, line: &ProductLine, timing: Timing) -> ReportResult
     ensures { IfOk result (λ report. timing_of line.now.plan ≡ Some timing → IsLineLoadReport line.now timing report.0 report.1) }
 {
-    let answer = check_line(alloc, line)?;
+    let (answer, times) = check_line_with_times(alloc, line)?;
     match answer {
         LineAnswer::NoVariant => {
             let text = no_variant_text(alloc)?;
             Ok((text, Verdict::Findings))
         }
         LineAnswer::Found(reported, looked) => {
-            let report = found_load(alloc, line, timing, &reported, &looked)?;
+            let report = found_load(alloc, line, timing, &reported, &looked, &times)?;
             Ok(report)
         }
     }
