@@ -5,6 +5,7 @@ import math
 import os
 import subprocess
 import tempfile
+from collections.abc import Callable
 from pathlib import Path
 
 TOP = Path(__file__).resolve().parent.parent
@@ -224,31 +225,55 @@ class Line:
         """Whether the witness of a finding is a full variant."""
         return words[0] in OF_TIMES or words[0] == "F28" and self.ends_in_pool(self.tables["flow"][places[0][1]])
 
-    def further(self, number: str, places: list[tuple[str, int]]) -> list[int]:
-        """The boxes beside those of what stands at the places of a finding."""
-        tables = [self.tables[kind][place] for kind, place in places]
-        flows = list(enumerate(self.tables["flow"]))
-        if number == "F13" or number == "F5" and all(table.get("private") for table in tables):
-            return [self.boxes["flow", place] for place, flow in flows if flow["group"] in [table["label"] for table in tables]]
+    def flows_where(self, test: Callable[[Table], bool]) -> list[int]:
+        """The boxes of the flows that pass a test."""
+        return [self.boxes["flow", place] for place, flow in enumerate(self.tables["flow"]) if test(flow)]
+
+    def sent_together(self, one: Table, other: Table) -> list[list[int]]:
+        """The boxes of each two flows by which one unit sends two groups to receivers that meet."""
+        short = all(int(str(group["pgn"])) & 0xFF00 >= 0xF000 and int(str(group["length"])) <= 8 for group in (one, other))
+        return [[self.boxes["flow", place], self.boxes["flow", at]]
+                for place, flow in enumerate(self.tables["flow"]) if flow["group"] == one["label"]
+                for at, beside in enumerate(self.tables["flow"]) if beside["group"] == other["label"] and beside["from"] == flow["from"]
+                and (short or "all" in (flow["to"], beside["to"]) or flow["to"] == beside["to"])]
+
+    def conditions(self, number: str, places: list[tuple[str, int]]) -> list[tuple[list[int], list[int]]]:
+        """The conditions of a finding: the boxes of what has to be there, and those of what mustn't be."""
+        tables, boxes = [self.tables[kind][place] for kind, place in places], [self.boxes[place] for place in places]
+        if number == "F13":
+            return [(boxes, self.flows_where(lambda flow: flow["group"] == tables[0]["label"]))]
+        if number == "F5" and all(table.get("private") for table in tables):
+            return [(boxes + both, []) for both in self.sent_together(*tables)]
         if number == "F19":
-            return self.sources(places[0][1])
-        if number in ("F21", "F22", "F23"):
-            return [self.boxes["flow", place] for place, flow in flows if self.serves(tables[0], flow)]
-        if number == "F31":
-            return [self.boxes["request", place] for place, request in enumerate(self.tables["request"])
-                    if "period" in request and self.serves(request, tables[0])]
+            return [(boxes, self.sources(places[0][1]))]
+        if number in ("F21", "F22"):
+            return [(boxes, self.flows_where(lambda flow: self.serves(tables[0], flow)))]
+        if number == "F23":
+            right = self.flows_where(lambda flow: self.serves(tables[0], flow) and (flow["to"] == "all") == (tables[0]["to"] == "all"))
+            wrong = self.flows_where(lambda flow: self.serves(tables[0], flow) and (flow["to"] == "all") != (tables[0]["to"] == "all"))
+            return [([*boxes, box], right) for box in wrong]
         if number == "F28":
-            ends = [unit["address"] for unit in self.tables["unit"] if unit["label"] in (tables[0]["from"], tables[0]["to"])]
-            return [self.boxes["unit", place] for place, unit in enumerate(self.tables["unit"]) if unit["address"] in ends]
-        return []
+            ends = [unit for unit in self.tables["unit"] if unit["label"] in (tables[0]["from"], tables[0]["to"])]
+            return [([*boxes, self.boxes["unit", place]], []) for place, unit in enumerate(self.tables["unit"])
+                    if any(unit["label"] != end["label"] and unit["address"] == end["address"] for end in ends)]
+        return [(boxes, [])]
+
+    def narrowed(self, boxes: list[int], taken: int) -> list[str]:
+        """What a variant takes of each choice of which one of these boxes lacks an alternative."""
+        return [label for label, choice in zip(self.labels(taken), self.sets) if any(choice & ~box for box in boxes)]
 
     def behind(self, words: list[str], places: list[tuple[str, int]], taken: int) -> list[str]:
-        """What stands behind a finding of the line, by its witness."""
-        if self.goes_by_full(words, places) and words[0] != "F31":
-            return ["in", *self.labels(taken)]
-        boxes = [self.boxes[place] for place in places]
-        boxes += [box for box in self.further(words[0], places) if words[0] == "F31" or self.meet(*boxes, box)]
-        told = [label for label, choice in zip(self.labels(taken), self.sets) if any(choice & ~box for box in boxes)]
+        """What stands behind a finding of the line, by its witness: what narrows the first of its conditions that it meets, or nothing."""
+        if words[0] == "F31":
+            asking = [self.boxes["request", place] for place, request in enumerate(self.tables["request"])
+                      if "period" in request and self.serves(request, self.tables["flow"][places[0][1]])]
+            met = [self.narrowed([self.boxes[places[0]], *asking], taken)]
+        elif self.goes_by_full(words, places):
+            met = [self.labels(taken)]
+        else:
+            met = [self.narrowed(together + [box for box in lacking if self.meet(*together, box)], taken) for together, lacking in self.conditions(words[0], places)
+                   if not any(taken & ~box for box in together) and all(taken & ~box for box in lacking)]
+        told = next((labels for labels in met if not labels), met[0])
         return ["in", *told] if told else []
 
     def best(self) -> list[tuple[list[str], list[tuple[str, int]], list[str]]]:

@@ -1,8 +1,7 @@
 //! What is found of full variants that counts what is there, and what is reported of their times.
-ghost use Rattle.std.specs.Prelude.{◌≡◌, ◌≢◌, ◌∷◌, ◌++◌, [], ℕ, List, IfOk, None, OnOk, map, not, true};
+ghost use Rattle.std.specs.Prelude.{◌≡◌, ◌≢◌, ◌∷◌, ◌++◌, [], ℕ, List, IfOk, None, OnOk, map, true};
 ghost use Rattle.j39_line_bounds.specs.LineTimes.{AreTimesAmong};
 ghost use Rattle.j39_line_findings.specs.Best.{AreBest};
-ghost use Rattle.j39_line_findings.specs.Conditions.{goes_by_conditions};
 ghost use Rattle.j39_line_findings.specs.LineFound.{AreVariantFindings};
 ghost use Rattle.j39_line_findings.specs.VariantAnswers.{IsVariantAnswer};
 ghost use Rattle.j39_load.specs.BusTimes.{timing_of};
@@ -12,26 +11,13 @@ ghost use Rattle.j39_full_variants.specs.CountedFindings.{AreCountedFindings, Ar
 ghost use Rattle.j39_full_variants.specs.SetVariants.{AreEarliestFirst, takes_alone};
 
 use crate::set_variants::takes_alone;
-use j39_findings::Finding;
 use j39_line_bounds::{LineTimes, no_times, times_with};
 use j39_line_findings::{
-    FullAlternatives, LineFinding, VariantAnswer, Witnessed, add, has_end_in_pool,
+    FullAlternatives, LineFinding, VariantAnswer, Witnessed, add, goes_by_conditions,
 };
 use j39_load::LoadFinding;
 use j39_variants::ProductLine;
 use std::alloc::{AllocError, Global};
-
-// Whether a finding counts what is there.
-fn counts_what_is_there(line: &ProductLine, finding: LineFinding) -> bool
-    ensures { result ≡ not (goes_by_conditions line.now finding) }
-{
-    match finding {
-        LineFinding::OfPlan(Finding::TooFewAddresses(_)) => true,
-        LineFinding::OfPlan(Finding::FlowContested(flow)) => has_end_in_pool(line, flow),
-        LineFinding::OfPlan(_) | LineFinding::OfLoad(LoadFinding::NoPeriod(_)) => false,
-        LineFinding::OfLoad(_) => true,
-    }
-}
 
 // Whether a variant takes those alternatives alone that are full for a need.
 fn takes_full_of_need(
@@ -73,7 +59,7 @@ fn is_looked_for(
 ) -> bool
     ensures { result ≡ is_looked_for line.now full.now variant.now finding }
 {
-    counts_what_is_there(line, finding) && takes_full_for(line, full, variant, finding)
+    !goes_by_conditions(line, finding) && takes_full_for(line, full, variant, finding)
 }
 
 // Adds what is looked for of what the variant at a place has.

@@ -10,7 +10,7 @@ use Rattle.j39_variants.specs.declared.line.ProductLine.{ProductLine}
 use Rattle.j39_line_findings.specs.Best.{IsWitnessAmong}
 use Rattle.j39_line_findings.specs.Conditions.{goes_by_conditions}
 use Rattle.j39_line_findings.specs.FullVariants.{line_with}
-use Rattle.j39_line_findings.specs.Reported.{are_ends_in_pool, has_end_in_pool}
+use Rattle.j39_line_findings.specs.FlowEnds.{are_ends_in_pool, has_end_in_pool}
 use Rattle.j39_line_findings.specs.declared.full.LineNevers.TheVariants.{Kept, LeftOut}
 use Rattle.j39_line_findings.specs.declared.line_finding.LineFinding.{LineFinding}
 use Rattle.j39_line_findings.specs.declared.line_finding.LineFinding.TheVariants.{OfPlan, OfLoad}

@@ -23,7 +23,7 @@ use Rattle.j39_load.specs.LineLists.{lines_of_each}
 use Rattle.j39_line_findings.specs.Conditions.{Condition, conditions_of_plan, contested_by, contested_conditions, is_beside_end, meets_any, meets_condition, where_together}
 use Rattle.j39_line_findings.specs.MissedNeeds.{is_unit_there}
 use Rattle.j39_line_findings.specs.There.{is_flow_there}
-use Rattle.j39_line_findings.specs.Reported.{are_at_one_address, are_ends_in_pool, has_end_in_pool, has_pool_address, is_end, is_end_in_pool}
+use Rattle.j39_line_findings.specs.FlowEnds.{are_at_one_address, are_ends_in_pool, has_end_in_pool, has_pool_address, is_end, is_end_in_pool}
 use Rattle.j39_line_findings.specs.declared.part.LinePart.TheVariants.{Unit as AUnit, Flow}
 use Rattle.j39_line_findings.proofs.Tests.{any_at}
 use Rattle.j39_line_condition_laws.proofs.Contested.{beside_or_alone, not_alone}
@@ -64,7 +64,7 @@ module _ (line : ProductLine) (v : List ℕ) (plan : Plan) (is_plan : IsVariantP
 
   -- two units are planned at one address in the file, where they are in the plan of the variant
   at_one_address : (i j : ℕ) (x y : UnitPlan) → slice_get plan.units.items i ≡ Some x → slice_get plan.units.items j ≡ Some y
-      → are_at_one_address line [] 0 (p.unit i) (p.unit j) ≡ (x.address == y.address)
+      → are_at_one_address line (p.unit i) (p.unit j) ≡ (x.address == y.address)
   at_one_address i j x y at_x at_y =
       ap (λ o. option_map_or (λ (unit : UnitPlan). option_map_or (λ (other : UnitPlan). unit.address == other.address) (slice_get line.plan.units.items (p.unit j)) false) o false)
       (unit_at_place i x at_x)
@@ -101,10 +101,10 @@ module _ (line : ProductLine) (v : List ℕ) (plan : Plan) (is_plan : IsVariantP
           ] in
           let address = at_one_address beside.place e beside.other unit beside.other_is at_e ∙ eq-eqb beside.other.address unit.address beside.address in
           let is_beside : is_beside_end line there (p.unit beside.place) ≡ true = range_any
-          (λ w. is_end there w && (not (p.unit beside.place == w) && are_at_one_address line [] 0 (p.unit beside.place) w)) (length line.plan.units.items) (p.unit e)
+          (λ w. is_end there w && (not (p.unit beside.place == w) && are_at_one_address line (p.unit beside.place) w)) (length line.plan.units.items) (p.unit e)
           (slice_get_within line.plan.units.items (p.unit e) unit at_end)
-          (and_from (is_end there (p.unit e)) (not (p.unit beside.place == p.unit e) && are_at_one_address line [] 0 (p.unit beside.place) (p.unit e)) ends
-          (and_from (not (p.unit beside.place == p.unit e)) (are_at_one_address line [] 0 (p.unit beside.place) (p.unit e))
+          (and_from (is_end there (p.unit e)) (not (p.unit beside.place == p.unit e) && are_at_one_address line (p.unit beside.place) (p.unit e)) ends
+          (and_from (not (p.unit beside.place == p.unit e)) (are_at_one_address line (p.unit beside.place) (p.unit e))
           (not_from_false (p.unit beside.place == p.unit e) differs) address)) in
           some_of (meets_condition line v) (contested_conditions line (p.flow i)) (slice_get line.plan.flows.items (p.flow i)) there at_there
           (if_of (meets_condition line v) (line.plan.live && not (has_end_in_pool line (p.flow i))) (contested_units line (p.flow i) there)
@@ -118,7 +118,7 @@ module _ (line : ProductLine) (v : List ℕ) (plan : Plan) (is_plan : IsVariantP
     -- ---- and back
 
     -- a unit of the plan at whose address another one is planned isn't alone
-    beside_unit : (e u : ℕ) → e < length plan.units.items → (u == p.unit e) ≡ false → are_at_one_address line [] 0 u (p.unit e) ≡ true
+    beside_unit : (e u : ℕ) → e < length plan.units.items → (u == p.unit e) ≡ false → are_at_one_address line u (p.unit e) ≡ true
         → is_unit_there line v u ≡ true → ¬ IsAloneInPlan plan e
     beside_unit e u below differs address u_there =
         let (unit, at_e) = value_at plan.units.items e below in
@@ -129,16 +129,16 @@ module _ (line : ProductLine) (v : List ℕ) (plan : Plan) (is_plan : IsVariantP
           other_is = its.value_is;
           differs = λ same. true≢false (sym (eq-eqb u (p.unit e) (sym its.place_is ∙ ap p.unit (sym same))) ∙ differs);
           address = eqb-true its.value.address unit.address (sym (at_one_address its.i e its.value unit its.value_is at_e)
-              ∙ subst (λ w. are_at_one_address line [] 0 w (p.unit e) ≡ true) (sym its.place_is) address);
+              ∙ subst (λ w. are_at_one_address line w (p.unit e) ≡ true) (sym its.place_is) address);
         })
 
-    contested_with : (e u : ℕ) → is_end there e ≡ true → (u == e) ≡ false → are_at_one_address line [] 0 u e ≡ true → is_unit_there line v u ≡ true
+    contested_with : (e u : ℕ) → is_end there e ≡ true → (u == e) ≡ false → are_at_one_address line u e ≡ true → is_unit_there line v u ≡ true
         → (¬ IsAloneInPlan plan flow.sender) ⊎ ((r : ℕ) × (flow.to ≡ One r) × (¬ IsAloneInPlan plan r))
     contested_with e u ends differs address u_there = elim (or_cases (there.sender == e) (is_to there.to e) ends) [
       | inl sender ↦
           let is_e : e ≡ p.unit flow.sender = sym (eqb-true there.sender e sender) ∙ stands.sender in
           inl (beside_unit flow.sender u sender_below (subst (λ w. (u == w) ≡ false) is_e differs)
-          (subst (λ w. are_at_one_address line [] 0 u w ≡ true) is_e address) u_there)
+          (subst (λ w. are_at_one_address line u w ≡ true) is_e address) u_there)
       | inr receiver ↦ go flow.to refl (sym stands.to ∙ (Decides-is_to there.to e).0 receiver)
     ]
       where
@@ -151,7 +151,7 @@ module _ (line : ProductLine) (v : List ℕ) (plan : Plan) (is_plan : IsVariantP
               r,
               is_t,
               beside_unit r u (receiver_below r is_t) (subst (λ w. (u == w) ≡ false) is_e differs)
-                  (subst (λ w. are_at_one_address line [] 0 u w ≡ true) is_e address) u_there,
+                  (subst (λ w. are_at_one_address line u w ≡ true) is_e address) u_there,
             )
 
     contested_here : meets_any line v (conditions_of_plan line (FlowContested (p.flow i))) ≡ true → IsFlowContested plan flow
@@ -163,9 +163,9 @@ module _ (line : ProductLine) (v : List ℕ) (plan : Plan) (is_plan : IsVariantP
         let by = passed_at (meets_condition line v) (λ w _. contested_by line (p.flow i) its.value w) line.plan.units.items some in
         let (beside, together) = of_if (meets_condition line v) (is_beside_end line its.value by.place) (where_together (Flow (p.flow i) ∷ AUnit by.place ∷ [])) by.passes in
         let (flow_is, unit_is) = met_both line v (Flow (p.flow i)) (AUnit by.place) together in
-        let end = any_at (λ w. is_end its.value w && (not (by.place == w) && are_at_one_address line [] 0 by.place w)) (range_with_len 0 (length line.plan.units.items)) beside in
-        let (ends, rest) = and_parts (is_end its.value end.value) (not (by.place == end.value) && are_at_one_address line [] 0 by.place end.value) end.passes in
-        let (differs, address) = and_parts (not (by.place == end.value)) (are_at_one_address line [] 0 by.place end.value) rest in (
+        let end = any_at (λ w. is_end its.value w && (not (by.place == w) && are_at_one_address line by.place w)) (range_with_len 0 (length line.plan.units.items)) beside in
+        let (ends, rest) = and_parts (is_end its.value end.value) (not (by.place == end.value) && are_at_one_address line by.place end.value) end.passes in
+        let (differs, address) = and_parts (not (by.place == end.value)) (are_at_one_address line by.place end.value) rest in (
           is_plan.has_live ∙ (and_parts line.plan.live (not (has_end_in_pool line (p.flow i))) which).0,
           contested_with end.value by.place (subst (λ (x : FlowPlan). is_end x end.value ≡ true) same ends) (not-true (by.place == end.value) differs) address unit_is,
         )

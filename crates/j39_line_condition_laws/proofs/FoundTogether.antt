@@ -27,7 +27,7 @@ use Rattle.j39_line_findings.specs.Conditions.{conditions_of_groups, conditions_
 use Rattle.j39_line_findings.specs.InFile.{finding_in_file}
 use Rattle.j39_line_findings.specs.LineFound.{AreVariantFindings, IsFound}
 use Rattle.j39_line_findings.specs.There.{is_flow_there, place_in_file}
-use Rattle.j39_line_findings.specs.Reported.{has_end_in_pool}
+use Rattle.j39_line_findings.specs.FlowEnds.{has_end_in_pool}
 use Rattle.j39_line_findings.specs.declared.line_finding.LineFinding.{LineFinding}
 use Rattle.j39_line_findings.specs.declared.line_finding.LineFinding.TheVariants.{OfPlan}
 use Rattle.j39_line_findings.specs.declared.part.LinePart.TheVariants.{Unit as AUnit, Group, Flow, Request}

@@ -16,10 +16,9 @@ use Rattle.j39_variants.specs.declared.line.ProductLine.{ProductLine}
 use Rattle.j39_part_laws.specs.PlanParts.{IsGroupThere, IsPartAt, Places}
 use Rattle.j39_part_laws.proofs.Findings.{receivers_there, sends_there}
 use Rattle.j39_load.specs.LineLists.{lines_of_each}
-use Rattle.j39_line_findings.specs.Conditions.{Condition, conditions_of_groups, meets_any, meets_condition, sent_together, sent_with, sent_with_any, where_together}
+use Rattle.j39_line_findings.specs.Conditions.{Condition, conditions_of_groups, is_private, meets_any, meets_condition, sent_together, sent_with, sent_with_any, where_together}
 use Rattle.j39_line_findings.specs.MissedNeeds.{is_group_there}
 use Rattle.j39_line_findings.specs.There.{is_flow_there}
-use Rattle.j39_line_findings.specs.Reported.{is_private}
 use Rattle.j39_line_findings.specs.declared.part.LinePart.TheVariants.{Group, Flow}
 use Rattle.j39_line_condition_laws.proofs.InPart.{same_pgn_found, sent_found}
 use Rattle.j39_line_condition_laws.proofs.InWhole.{at, flow_place, flow_there, group_there, is_part}
@@ -98,7 +97,7 @@ module _ (line : ProductLine) (v : List ℕ) (g h : ℕ) where
 
   -- the groups are there
   pub groups_of : meets_any line v (conditions_of_groups line g h) ≡ true → (is_group_there line v g ≡ true) × (is_group_there line v h ≡ true)
-  groups_of = by (is_private line [] 0 g && is_private line [] 0 h)
+  groups_of = by (is_private line g && is_private line h)
     where
       by : (b : Bool) → meets_any line v (if b
           then option_map_or (λ group. option_map_or (sent_together line g h group) (slice_get those h) []) (slice_get those g) []
@@ -107,7 +106,7 @@ module _ (line : ProductLine) (v : List ℕ) (g h : ℕ) where
       by false met = met_both line v (Group g) (Group h) met
 
 -- of a group of the file
-private_is : (line : ProductLine) (g : ℕ) (group : GroupPlan) → slice_get line.plan.groups.items g ≡ Some group → is_private line [] 0 g ≡ group.private
+private_is : (line : ProductLine) (g : ℕ) (group : GroupPlan) → slice_get line.plan.groups.items g ≡ Some group → is_private line g ≡ group.private
 private_is line g group at_g = ap (λ o. option_map_or (λ (x : GroupPlan). x.private) o false) at_g
 
 module _ (line : ProductLine) (v : List ℕ) (plan : Plan) (is_plan : IsVariantPlan line v plan) where
@@ -120,7 +119,7 @@ module _ (line : ProductLine) (v : List ℕ) (plan : Plan) (is_plan : IsVariantP
   -- ---- from the variant to the conditions
 
   pub same_pgn_there : (i j : ℕ) → Holds plan (SamePgn i j) → meets_any line v (conditions_of_groups line (p.group i) (p.group j)) ≡ true
-  same_pgn_there i j holds = by (is_private line [] 0 (p.group i) && is_private line [] 0 (p.group j)) refl
+  same_pgn_there i j holds = by (is_private line (p.group i) && is_private line (p.group j)) refl
     where
       one_there : is_group_there line v (p.group i) ≡ true
       one_there = group_there line v plan is_plan i holds.first holds.first_is
@@ -159,18 +158,18 @@ module _ (line : ProductLine) (v : List ℕ) (plan : Plan) (is_plan : IsVariantP
             beside_there = flow_there line v plan is_plan b second.value second.value_is;
           }
 
-      is_not : (k : ℕ) (x : GroupPlan) → slice_get plan.groups.items k ≡ Some x → is_private line [] 0 (p.group k) ≡ true → x.private ≡ false → ⊥
+      is_not : (k : ℕ) (x : GroupPlan) → slice_get plan.groups.items k ≡ Some x → is_private line (p.group k) ≡ true → x.private ≡ false → ⊥
       is_not k x at_x private public =
           let there = is.groups.each k x at_x in
           true≢false (sym private ∙ private_is line (p.group k) there.value there.value_is ∙ there.meets.private ∙ public)
 
-      by : (b : Bool) → (is_private line [] 0 (p.group i) && is_private line [] 0 (p.group j)) ≡ b → meets_any line v (if b
+      by : (b : Bool) → (is_private line (p.group i) && is_private line (p.group j)) ≡ b → meets_any line v (if b
           then option_map_or (λ group. option_map_or (sent_together line (p.group i) (p.group j) group) (slice_get line.plan.groups.items (p.group j)) [])
           (slice_get line.plan.groups.items (p.group i)) []
           else where_together (Group (p.group i) ∷ Group (p.group j) ∷ [])) ≡ true
       by false either = both_met line v (Group (p.group i)) (Group (p.group j)) one_there other_there
       by true both =
-          let (one_private, other_private) = and_parts (is_private line [] 0 (p.group i)) (is_private line [] 0 (p.group j)) both in
+          let (one_private, other_private) = and_parts (is_private line (p.group i)) (is_private line (p.group j)) both in
           elim holds.related.2 [
             | inl public ↦ absurd (is_not i holds.first holds.first_is one_private public)
             | inr (inl public) ↦ absurd (is_not j holds.second holds.second_is other_private public)
@@ -181,7 +180,7 @@ module _ (line : ProductLine) (v : List ℕ) (plan : Plan) (is_plan : IsVariantP
 
   pub there_same_pgn : (i j : ℕ) (g h : GroupPlan) → slice_get plan.groups.items i ≡ Some g → slice_get plan.groups.items j ≡ Some h
       → Holds line.plan (SamePgn (p.group i) (p.group j)) → meets_any line v (conditions_of_groups line (p.group i) (p.group j)) ≡ true → Holds plan (SamePgn i j)
-  there_same_pgn i j g h at_g at_h holds = by (is_private line [] 0 (p.group i) && is_private line [] 0 (p.group j)) refl
+  there_same_pgn i j g h at_g at_h holds = by (is_private line (p.group i) && is_private line (p.group j)) refl
     where
       found_with : (Also : GroupPlan → GroupPlan → Type 0)
           → ((x y : GroupPlan) → IsGroupThere g x → IsGroupThere h y → Also x y
@@ -222,13 +221,13 @@ module _ (line : ProductLine) (v : List ℕ) (plan : Plan) (is_plan : IsVariantP
             );
           })))
 
-      by : (b : Bool) → (is_private line [] 0 (p.group i) && is_private line [] 0 (p.group j)) ≡ b → meets_any line v (if b
+      by : (b : Bool) → (is_private line (p.group i) && is_private line (p.group j)) ≡ b → meets_any line v (if b
           then option_map_or (λ group. option_map_or (sent_together line (p.group i) (p.group j) group) (slice_get line.plan.groups.items (p.group j)) [])
           (slice_get line.plan.groups.items (p.group i)) []
           else where_together (Group (p.group i) ∷ Group (p.group j) ∷ [])) ≡ true → Holds plan (SamePgn i j)
       by false either met = found_with (λ x y. (x.private && y.private) ≡ false) public_one
           (ap (λ b. b && holds.second.private) (sym (private_is line (p.group i) holds.first holds.first_is))
-          ∙ ap (λ b. is_private line [] 0 (p.group i) && b) (sym (private_is line (p.group j) holds.second holds.second_is)) ∙ either)
+          ∙ ap (λ b. is_private line (p.group i) && b) (sym (private_is line (p.group j) holds.second holds.second_is)) ∙ either)
       by true both met =
           let its = with_groups line v (p.group i) (p.group j) met in
           found_with (λ x y. (x ≡ its.group) × (y ≡ its.other)) (sent_both its)

@@ -70,7 +70,3 @@ is_choice_in_all line alternatives p q r c = list_any (λ a. (a.choice == c)
 -- three boxes meet: some variant, possible or not, is in each of them; the alternatives are those of the line
 abbrev pub do_meet : ProductLine → List Alternative → LinePart → LinePart → LinePart → Bool
 do_meet line alternatives p q r = list_all (λ a. is_choice_in_all line alternatives p q r a.choice) alternatives
-
--- a box lacks an alternative of a choice
-abbrev pub does_lack : ProductLine → List Alternative → LinePart → ℕ → Bool
-does_lack line alternatives p c = list_any (λ a. (a.choice == c) && not (part_lets_in line a p)) alternatives

@@ -18,10 +18,10 @@ use Rattle.j39_network.specs.declared.plan.group_plan.GroupPlan.{GroupPlan}
 use Rattle.j39_network.specs.declared.plan.need_plan.NeedPlan.{NeedPlan}
 use Rattle.j39_network.specs.declared.plan.request_plan.RequestPlan.{RequestPlan}
 use Rattle.j39_variants.specs.declared.line.ProductLine.{ProductLine}
+use Rattle.j39_line_findings.specs.FlowEnds.{are_at_one_address, has_end_in_pool, is_end}
 use Rattle.j39_line_findings.specs.FullVariants.{does_bring}
 use Rattle.j39_line_findings.specs.MissedNeeds.{is_group_there, is_need_asked_for, is_unit_there}
 use Rattle.j39_line_findings.specs.There.{is_flow_there, is_request_there}
-use Rattle.j39_line_findings.specs.Reported.{are_at_one_address, has_end_in_pool, is_end, is_private}
 use Rattle.j39_line_findings.specs.declared.line_finding.LineFinding.{LineFinding}
 use Rattle.j39_line_findings.specs.declared.line_finding.LineFinding.TheVariants.{OfPlan, OfLoad}
 use Rattle.j39_line_findings.specs.declared.part.LinePart.{LinePart}
@@ -79,8 +79,11 @@ sent_with_any line g h group other f flow = if sends line.plan.groups.items grou
 abbrev pub sent_together : ProductLine → ℕ → ℕ → GroupPlan → GroupPlan → List Condition
 sent_together line g h group other = lines_of_each (sent_with_any line g h group other) 0 line.plan.flows.items
 
+abbrev pub is_private : ProductLine → ℕ → Bool
+is_private line g = option_map_or (λ group. group.private) (slice_get line.plan.groups.items g) false
+
 abbrev pub conditions_of_groups : ProductLine → ℕ → ℕ → List Condition
-conditions_of_groups line g h = if is_private line [] 0 g && is_private line [] 0 h
+conditions_of_groups line g h = if is_private line g && is_private line h
     then option_map_or (λ group. option_map_or (sent_together line g h group) (slice_get line.plan.groups.items h) []) (slice_get line.plan.groups.items g) []
     else where_together (Group g ∷ Group h ∷ [])
 
@@ -125,7 +128,7 @@ astray_conditions line r request = if is_to_one request.to
 -- another unit is planned at the address of an end
 abbrev pub is_beside_end : ProductLine → FlowPlan → ℕ → Bool
 is_beside_end line flow u =
-    list_any (λ v. is_end flow v && (not (u == v) && are_at_one_address line [] 0 u v)) (range_with_len 0 (length line.plan.units.items))
+    list_any (λ v. is_end flow v && (not (u == v) && are_at_one_address line u v)) (range_with_len 0 (length line.plan.units.items))
 
 abbrev pub contested_by : ProductLine → ℕ → FlowPlan → ℕ → List Condition
 contested_by line f flow u = if is_beside_end line flow u then where_together (Flow f ∷ AUnit u ∷ []) else []

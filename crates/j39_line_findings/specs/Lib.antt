@@ -2,6 +2,7 @@ pub mod AllVariants
 pub mod Best
 pub mod Boxes
 pub mod Conditions
+pub mod FlowEnds
 pub mod FullVariants
 pub mod InFile
 pub mod KnownParts
@@ -10,4 +11,3 @@ pub mod MissedNeeds
 pub mod PossibleVariants
 pub mod There
 pub mod VariantAnswers
-pub mod Reported

@@ -1,7 +1,7 @@
 //! What stands in a plan of a line of vehicles, and the boxes of variants in which it is there.
 ghost use Rattle.std.specs.Prelude.{◌≡◌, ◌==◌, ◌&&◌};
 ghost use Rattle.std.specs.List.{list_any};
-ghost use Rattle.j39_line_findings.specs.Boxes.{do_meet, does_lack, is_choice_in_all, is_one_alternative, lets_in, lets_in_at};
+ghost use Rattle.j39_line_findings.specs.Boxes.{do_meet, is_choice_in_all, is_one_alternative, lets_in, lets_in_at};
 ghost use Rattle.j39_line_findings.specs.Boxes.{flow_lets_in, group_lets_in, need_lets_in, part_lets_in};
 ghost use Rattle.j39_line_findings.specs.Boxes.{receiver_lets_in, request_lets_in, unit_lets_in};
 
@@ -159,18 +159,4 @@ pub(crate) fn do_meet(
     ensures { result ≡ do_meet line.now alternatives.now one other third }
 {
     alternatives.iter().all(|a| is_choice_in_all(line, alternatives, one, other, third, a.choice))
-}
-
-/// Whether a box lacks an alternative of a choice.
-pub(crate) fn does_lack(
-    line: &ProductLine,
-    alternatives: &[Alternative],
-    part: LinePart,
-    choice: usize,
-) -> bool
-    ensures { result ≡ does_lack line.now alternatives.now part choice }
-{
-    alternatives
-        .iter()
-        .any(|a| a.choice == choice && !part_lets_in(line, a, part))
 }

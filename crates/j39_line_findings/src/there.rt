@@ -1,11 +1,13 @@
 //! What is there in a variant, and its places in the file.
 ghost use Rattle.std.specs.Prelude.{◌≡◌, IfOk};
+ghost use Rattle.j39_line_findings.specs.Conditions.{is_part_there};
 ghost use Rattle.j39_line_findings.specs.There.{IsWhatIsThere, is_flow_there, is_need_there, is_receiver_there};
 ghost use Rattle.j39_line_findings.specs.There.{is_kind_there, is_request_there, missed_needs, place_in_file, places_of_those};
 
 use crate::missed_needs::{
     is_group_there, is_in_at, is_need_asked_for, is_need_missed, is_source_there, is_unit_there,
 };
+use crate::part::LinePart;
 use j39_network::To;
 use j39_variants::ProductLine;
 use std::alloc::{AllocError, Global};
@@ -51,6 +53,19 @@ fn is_need_there(line: &ProductLine, variant: &[usize], place: usize) -> bool
     ensures { result ≡ is_need_there line.now variant.now place }
 {
     is_need_asked_for(line, variant, place) && is_source_there(line, variant, place)
+}
+
+/// Whether a part is there in a variant; a need, where it is asked for.
+pub fn is_part_there(line: &ProductLine, variant: &[usize], part: LinePart) -> bool
+    ensures { result ≡ is_part_there line.now variant.now part }
+{
+    match part {
+        LinePart::Unit(unit) => is_unit_there(line, variant, unit),
+        LinePart::Group(group) => is_group_there(line, variant, group),
+        LinePart::Flow(flow) => is_flow_there(line, variant, flow),
+        LinePart::Need(need) => is_need_asked_for(line, variant, need),
+        LinePart::Request(request) => is_request_there(line, variant, request),
+    }
 }
 
 // What is looked for in a variant.

@@ -1,8 +1,8 @@
 -- A flow that is asked for too often in a variant is in another one that takes what is reported of it: the same requests ask for it there.
 use Rattle.std.proofs.Common.{◌≡◌, ℕ, ◌+◌, zero, suc, ◌&&◌, ◌||◌, Bool, true, false, if◌then◌else◌, List, [], ◌∷◌, ◌++◌, Contains, length, Option, Some, None, is_some, option_map, refl, sym, ◌∙◌, ap, subst, inl, inr, arith}
 use Rattle.std.specs.List.{cons_option, filter_map, slice_get}
-use Rattle.std.specs.Option.{option_to_list}
-use Rattle.std.proofs.lemmas.Bool.{cases_Bool, or_left, or_right}
+use Rattle.std.specs.Option.{option_map_or, option_to_list}
+use Rattle.std.proofs.lemmas.Bool.{and_from, and_parts}
 use Rattle.std.proofs.lemmas.List.{length-map}
 use Rattle.std.proofs.lemmas.Option.{same_Some}
 use Rattle.j39_load.specs.AskedFlows.{asked_every, asking_periods, is_asked_too_often, is_more_than_one}
@@ -22,24 +22,24 @@ use Rattle.j39_network.specs.declared.plan.timing.Timing.{Timing}
 use Rattle.j39_variants.specs.VariantPlans.{flag_at, flags, group_places, IsVariantPlan, moved_flow, moved_receivers, moved_request, picked, place_at, unit_places}
 use Rattle.j39_variants.specs.Variants.{is_in}
 use Rattle.j39_variants.specs.declared.line.ProductLine.{ProductLine}
-use Rattle.j39_line_findings.specs.Boxes.{does_lack}
-use Rattle.j39_line_findings.specs.FullVariants.{alternatives_of}
+use Rattle.j39_line_findings.specs.Boxes.{part_lets_in}
+use Rattle.j39_line_findings.specs.Conditions.{is_part_there}
+use Rattle.j39_line_findings.specs.KnownParts.{do_all_let_in}
 use Rattle.j39_line_findings.specs.InFile.{load_finding_in_file}
 use Rattle.j39_line_findings.specs.LineFound.{AreVariantFindings, IsFound}
-use Rattle.j39_line_findings.specs.Reported.{lacks_asking}
 use Rattle.j39_line_findings.specs.There.{is_flow_there, is_request_there, place_in_file}
 use Rattle.j39_line_findings.specs.declared.line_finding.LineFinding.{LineFinding}
 use Rattle.j39_line_findings.specs.declared.line_finding.LineFinding.TheVariants.{OfLoad}
+use Rattle.j39_line_findings.specs.declared.part.LinePart.{LinePart}
 use Rattle.j39_line_findings.specs.declared.part.LinePart.TheVariants.{Flow, Request}
+use Rattle.j39_line_witnesses.specs.ReportedChoices.{asking_part, asking_parts, choices_of_parts, parts_of_asked}
 use Rattle.j39_line_part_laws.proofs.Filtering.{request_test}
 use Rattle.j39_line_part_laws.proofs.FoundOfCovering.{in_load, of_load_reported}
 use Rattle.j39_line_part_laws.proofs.Parts.{flow_of, request_of}
 use Rattle.j39_line_condition_laws.proofs.InVariant.{are_flows}
 use Rattle.j39_line_condition_laws.proofs.PickedPlaces.{one_test}
 use Rattle.j39_line_condition_laws.proofs.TestsAgree.{serves_same}
-use Rattle.j39_line_in_laws.proofs.KeptParts.{Agree, AreTwo, kept_part, other_two, turned}
-use Rattle.j39_line_in_laws.proofs.ReportedBoxes.{lacking_asking}
-use Rattle.j39_line_in_laws.proofs.TakenReported.{is_reported_of}
+use Rattle.j39_line_in_laws.proofs.KeptConditions.{Agree, AreAmong, AreTwo, kept_parts, listed_all, other_two, turned}
 use Rattle.j39_line_in_laws.specs.ReportedConditions.{HasInAll}
 
 -- ---- the requests of a variant, by their places in the file
@@ -110,25 +110,33 @@ module _ (line : ProductLine) (x : List ℕ) (plan : Plan) (is : IsVariantPlan l
 
 -- ---- of two variants
 
-module _ (line : ProductLine) (w v : List ℕ) (two : AreTwo line w v) (f : ℕ) (agree : Agree (is_reported_of line (OfLoad (AskedTooOften f))) w v)
+module _ (line : ProductLine) (w v : List ℕ) (two : AreTwo line w v) (f : ℕ) (agree : Agree (choices_of_parts line (parts_of_asked line f)) w v)
     (flow : FlowPlan) (at_f : slice_get line.plan.flows.items f ≡ Some flow) where
-  abbrev reported : ℕ → Bool
-  reported = is_reported_of line (OfLoad (AskedTooOften f))
+  -- one of the parts that count
+  one_kept : (x y : List ℕ) → AreTwo line x y → Agree (choices_of_parts line (parts_of_asked line f)) x y → (part : LinePart)
+      → AreAmong line (part ∷ []) (parts_of_asked line f) → is_part_there line x part ≡ true → is_part_there line y part ≡ true
+  one_kept x y both same part among there = (and_parts (is_part_there line y part) true
+      (kept_parts line (parts_of_asked line f) x y both same (part ∷ []) among (and_from (is_part_there line x part) true there refl))).0
 
   flow_kept : is_flow_there line w f ≡ true → is_flow_there line v f ≡ true
-  flow_kept = kept_part line reported w v two agree (Flow f)
-      (λ c l. or_left (does_lack line (alternatives_of line) (Flow f) c) (lacks_asking line (alternatives_of line) c f) l)
+  flow_kept = one_kept w v two agree (Flow f) (λ a all. and_from (part_lets_in line a (Flow f)) true
+      (and_parts (part_lets_in line a (Flow f)) (do_all_let_in line (option_map_or (asking_parts line) (slice_get line.plan.flows.items f) []) a) all).0 refl)
 
-  asking_reported : (r : ℕ) (request : RequestPlan) → slice_get line.plan.requests.items r ≡ Some request → is_some (asked_every flow request) ≡ true
-      → (c : ℕ) → does_lack line (alternatives_of line) (Request r) c ≡ true → reported c ≡ true
-  asking_reported r request at_r asks c lacks = or_right (does_lack line (alternatives_of line) (Flow f) c) (lacks_asking line (alternatives_of line) c f)
-      (lacking_asking line c f r flow request at_f at_r asks lacks)
+  asking_among : (r : ℕ) (request : RequestPlan) → slice_get line.plan.requests.items r ≡ Some request → is_some (asked_every flow request) ≡ true
+      → AreAmong line (Request r ∷ []) (parts_of_asked line f)
+  asking_among r request at_r asks a all =
+      let rest = (and_parts (part_lets_in line a (Flow f)) (do_all_let_in line (option_map_or (asking_parts line) (slice_get line.plan.flows.items f) []) a) all).1 in
+      let here : 0 + r ≡ r = omega arith in
+      subst (λ b. do_all_let_in line (if b then Request r ∷ [] else []) a ≡ true) asks
+      (subst (λ n. do_all_let_in line (asking_part flow n request) a ≡ true) here
+      (listed_all (part_lets_in line a) (asking_part flow) 0 line.plan.requests.items
+      (subst (λ o. do_all_let_in line (option_map_or (asking_parts line) o []) a ≡ true) at_f rest) r request at_r))
 
   request_kept : (r : ℕ) (request : RequestPlan) → slice_get line.plan.requests.items r ≡ Some request → is_some (asked_every flow request) ≡ true
       → is_request_there line w r ≡ is_request_there line v r
   request_kept r request at_r asks = one_test (is_request_there line w r) (is_request_there line v r)
-      (kept_part line reported w v two agree (Request r) (asking_reported r request at_r asks))
-      (kept_part line reported v w (other_two line w v two) (turned reported w v agree) (Request r) (asking_reported r request at_r asks))
+      (one_kept w v two agree (Request r) (asking_among r request at_r asks))
+      (one_kept v w (other_two line w v two) (turned (choices_of_parts line (parts_of_asked line f)) w v agree) (Request r) (asking_among r request at_r asks))
 
   period_kept : (r : ℕ) (request : RequestPlan) → slice_get line.plan.requests.items r ≡ Some request
       → period_where (is_request_there line w) (asked_every flow) r request ≡ period_where (is_request_there line v) (asked_every flow) r request
@@ -192,7 +200,7 @@ module _ (plan : Plan) (others : List LoadFinding) where
     unfolding timing_of
     asked_found = by_found plan.timing are
 
-pub asked_kept : (line : ProductLine) (w v : List ℕ) → AreTwo line w v → (f : ℕ) → Agree (is_reported_of line (OfLoad (AskedTooOften f))) w v
+pub asked_kept : (line : ProductLine) (w v : List ℕ) → AreTwo line w v → (f : ℕ) → Agree (choices_of_parts line (parts_of_asked line f)) w v
     → (findings : List LineFinding) → AreVariantFindings line w findings → IsFound findings (OfLoad (AskedTooOften f)) → HasInAll line v (OfLoad (AskedTooOften f))
 asked_kept line w v two f agree findings are one others has =
     let (finding, among, is) = in_load line w findings are (AskedTooOften f) one in go finding among is

@@ -1,8 +1,5 @@
 mod AskedKept
-mod KeptFindings
-mod KeptLists
-mod KeptParts
+mod KeptConditions
 mod TakenReported
-mod ReportedBoxes
 mod ReportedLaws
 mod ReportedOfLines

@@ -15,7 +15,7 @@ found_had line v finding possible (inr some) =
     record { possible = possible; findings = some.findings; are_findings = some.are_findings; one = some.one }
 
 pub reported_of_line_is_had : ReportedOfLineIsHad
-reported_of_line_is_had line names many reported are t among v taking =
+reported_of_line_is_had line many reported are t among v taking =
     let its = (are.sound t among).1 in
     let w = t.variant.items in
     let takes : TakesWhatIsReported line t.finding w v = record {
@@ -24,5 +24,5 @@ reported_of_line_is_had line names many reported are t among v taking =
       takes = taking.takes_these;
     } in
     found_had line v t.finding (record { is_variant = taking.is_variant; possible = taking.possible })
-    (reported_is_had line names t.finding w v takes its.has.findings its.has.are_findings
+    (reported_is_had line t.finding w v takes its.has.findings its.has.are_findings
     (inr (record { findings = its.has.findings; are_findings = its.has.are_findings; one = its.has.one })))

@@ -4,23 +4,26 @@ use Rattle.j39_load.specs.LineLists.{lines_of_each}
 use Rattle.j39_load.specs.declared.findings.load_finding.LoadFinding.TheVariants.{AskedTooOften}
 use Rattle.j39_variants.specs.declared.line.Alternative.{Alternative}
 use Rattle.j39_variants.specs.declared.line.ProductLine.{ProductLine}
+use Rattle.j39_variants.specs.VariantPlans.{flag_at}
 use Rattle.j39_variants.specs.Variants.{IsFirstTaking, IsVariant, takes_all}
 use Rattle.j39_line_findings.specs.Conditions.{conditions_of, goes_by_conditions, meets_any}
-use Rattle.j39_line_findings.specs.FullVariants.{alternative_at, alternatives_of}
+use Rattle.j39_line_findings.specs.FullVariants.{alternative_at}
 use Rattle.j39_line_findings.specs.LineFound.{AreVariantFindings, IsFound}
 use Rattle.j39_line_findings.specs.PossibleVariants.{IsPossible}
-use Rattle.j39_line_findings.specs.Reported.{is_reported}
 use Rattle.j39_line_findings.specs.declared.line_finding.LineFinding.{LineFinding}
 use Rattle.j39_line_findings.specs.declared.line_finding.LineFinding.TheVariants.{OfLoad}
-use Rattle.j39_line_condition_laws.specs.BoxedParts.{ListsNameChoices}
 use Rattle.j39_line_witnesses.specs.FirstMeeting.{IsFirstMeeting}
+use Rattle.j39_line_witnesses.specs.ReportedChoices.{reported_choices}
 
 -- the alternatives of a witness that are reported with a finding
-abbrev pub reported_of_choice : ProductLine → LineFinding → ℕ → ℕ → List Alternative
-reported_of_choice line finding c place = if is_reported line (alternatives_of line) c finding then alternative_at c place ∷ [] else []
+abbrev pub reported_of_choice : List Bool → ℕ → ℕ → List Alternative
+reported_of_choice choices c place = if flag_at choices c then alternative_at c place ∷ [] else []
+
+abbrev pub reported_by : List Bool → List ℕ → List Alternative
+reported_by choices witness = lines_of_each (reported_of_choice choices) 0 witness
 
 abbrev pub reported_with : ProductLine → LineFinding → List ℕ → List Alternative
-reported_with line finding witness = lines_of_each (reported_of_choice line finding) 0 witness
+reported_with line finding witness = reported_by (reported_choices line witness finding) witness
 
 -- another variant takes them too
 pub record TakesWhatIsReported (line : ProductLine) (finding : LineFinding) (witness variant : List ℕ) : Type 0 where
@@ -46,10 +49,10 @@ abbrev pub is_of_requests : LineFinding → Bool
 is_of_requests (OfLoad (AskedTooOften f)) = true
 is_of_requests finding = false
 
--- ---- the laws, of lines whose lists name their choices
+-- ---- the laws
 
 abbrev pub ReportedIsCondition : Type 0
-ReportedIsCondition = (line : ProductLine) → ListsNameChoices line → (finding : LineFinding) → goes_by_conditions line finding ≡ true
+ReportedIsCondition = (line : ProductLine) (finding : LineFinding) → goes_by_conditions line finding ≡ true
     → (witness variant : List ℕ) → TakesWhatIsReported line finding witness variant
     → meets_any line witness (conditions_of line finding) ≡ true → meets_any line variant (conditions_of line finding) ≡ true
 
@@ -59,11 +62,11 @@ ReportedMayBeAll = (line : ProductLine) (finding : LineFinding) → goes_by_cond
 
 -- of a witness of which it is known what is found
 abbrev pub ReportedIsHad : Type 0
-ReportedIsHad = (line : ProductLine) → ListsNameChoices line → (finding : LineFinding) (witness variant : List ℕ) → TakesWhatIsReported line finding witness variant
+ReportedIsHad = (line : ProductLine) (finding : LineFinding) (witness variant : List ℕ) → TakesWhatIsReported line finding witness variant
     → (findings : List LineFinding) → AreVariantFindings line witness findings → HasFound line witness finding → HasFound line variant finding
 
 -- a witness is possible, and the first that meets a condition of the finding, where this goes by conditions; but for flows that are asked for too often
 abbrev pub ReportedLeads : Type 0
-ReportedLeads = (line : ProductLine) → ListsNameChoices line → (finding : LineFinding) → is_of_requests finding ≡ false → (witness : List ℕ) → IsPossible line witness
+ReportedLeads = (line : ProductLine) (finding : LineFinding) → is_of_requests finding ≡ false → (witness : List ℕ) → IsPossible line witness
     → (goes_by_conditions line finding ≡ true → IsFirstMeeting line (conditions_of line finding) witness)
     → IsFirstTaking line (reported_with line finding witness) witness

@@ -2,7 +2,6 @@
 use Rattle.std.specs.Prelude.{◌≡◌, ◌⊎◌, ◌==◌, ◌&&◌, ◌||◌, ℕ, List, [], Bool, true, false, is_some, map, nat_lt, Option, Some, None}
 use Rattle.std.specs.List.{list_any}
 use Rattle.j39_variants.specs.declared.line.ProductLine.{ProductLine}
-use Rattle.j39_line_findings.specs.FullVariants.{alternatives_of}
 use Rattle.j39_line_findings.specs.InFile.{rank_of}
 use Rattle.j39_line_findings.specs.declared.line_finding.LineFinding.{LineFinding}
 use Rattle.j39_line_check.specs.LineChecks.{AreLookedFor, AreReported, HasIt, SomePossible, many_of}
@@ -54,7 +53,7 @@ pub record IsHiddenLine (asked : Asked) (line : ProductLine) (text : List ℕ) :
   pub reported : List ReportedFinding
   pub found : AreReportedAt line looked reported
   pub hidden : is_hidden asked (many_of looked) reported ≡ true
-  pub text_is : text ≡ findings_of_line_text line (alternatives_of line) (many_of looked) reported
+  pub text_is : text ≡ findings_of_line_text line (many_of looked) reported
 
 -- that no variant is possible, as check writes it, or this
 abbrev pub IsHiddenReport : Asked → ProductLine → List ℕ → Type 0

@@ -6,7 +6,6 @@ use Rattle.j39_load.specs.LoadFindings.{AreLoadFindings}
 use Rattle.j39_network.specs.declared.plan.Plan.{Plan}
 use Rattle.j39_variants.specs.declared.line.ProductLine.{ProductLine}
 use Rattle.j39_variants.specs.VariantPlans.{IsVariantPlan}
-use Rattle.j39_line_findings.specs.FullVariants.{alternatives_of}
 use Rattle.j39_line_findings.specs.PossibleVariants.{IsPossible}
 use Rattle.j39_line_findings.specs.MissedNeeds.{is_some_need_missed}
 use Rattle.j39_line_check.specs.LineChecks.{AreReported, SomePossible}
@@ -54,7 +53,7 @@ pub record IsCertifiedLine (line : ProductLine) : Type 0 where
 pub record IsFoundText (line : ProductLine) (many : Option ℕ) (reported : List ReportedFinding) (text : List ℕ) : Type 0 where
   pub some : SomePossible line
   pub are_reported : AreReported line many reported
-  pub text_is : text ≡ findings_of_line_text line (alternatives_of line) many reported
+  pub text_is : text ≡ findings_of_line_text line many reported
 
 -- something is reported
 abbrev pub is_some_reported : Option ℕ → List ReportedFinding → Bool

@@ -8,7 +8,6 @@ use Rattle.j39_line_bounds.specs.declared.times.LineTimes.{LineTimes}
 use Rattle.j39_line_check.specs.declared.answer.LookedAt.{LookedAt}
 use Rattle.j39_line_check.specs.declared.answer.ReportedFinding.{ReportedFinding}
 use Rattle.j39_line_findings.specs.AllVariants.{IsOneOf}
-use Rattle.j39_line_findings.specs.FullVariants.{alternatives_of}
 use Rattle.j39_line_text.specs.Hindrances.{IsHiddenReport, IsShownLine, variants_at}
 use Rattle.j39_line_text.specs.ShownTimes.{AreShownTimes}
 use Rattle.j39_line_text.specs.TimeLines.{line_times_text}
@@ -34,7 +33,7 @@ pub record IsTimesReport (line : ProductLine) (timing : Timing) (text : List ℕ
   pub bounds : BoundEachOf (IsOneOf (variants_at looked)) line times
   pub shown_times : LineTimes
   pub are_shown : AreShownTimes line times reported shown_times
-  pub text_is : text ≡ line_times_text line.plan timing shown_times ++ unshown_of_line_text line (alternatives_of line) reported
+  pub text_is : text ≡ line_times_text line.plan timing shown_times ++ unshown_of_line_text line reported
   pub verdict_is : verdict ≡ line_load_verdict reported
 
 -- what is written for a line of vehicles of whose bus this is known, with the verdict: as check does, where a finding hides the times, or the full

@@ -1,16 +1,17 @@
 //! The lines of what is found of a line of vehicles.
 ghost use Rattle.std.specs.Prelude.{◌≡◌, ◌++◌, IfOk, OnOk, length};
-ghost use Rattle.j39_line_findings.specs.FullVariants.{alternatives_of};
-ghost use Rattle.j39_line_findings.specs.Reported.{is_reported};
-ghost use Rattle.j39_line_text.specs.WitnessLines.{alternative_label, findings_of_line_text, is_any_reported, label_of_alternative, place_taken, run_of_line};
+ghost use Rattle.std.specs.List.{list_any};
+ghost use Rattle.j39_variants.specs.VariantPlans.{flag_at};
+ghost use Rattle.j39_line_text.specs.WitnessLines.{alternative_label, findings_of_line_text, label_of_alternative, place_taken, run_of_line};
 ghost use Rattle.j39_line_text.specs.WitnessLines.{count_with, is_of_line_times, line_finding_text, many_text};
 ghost use Rattle.j39_line_text.specs.WitnessLines.{unshown_of_line_text, witness_line, witness_text};
 
 use j39_line_check::ReportedFinding;
-use j39_line_findings::{LineFinding, Reporting, alternatives_of};
+use j39_line_findings::LineFinding;
+use j39_line_witnesses::reported_choices;
 use j39_plan_text::{WriteLines, write_each, write_finding, write_load_finding, write_run};
 use j39_text::{TextBuffer, WriteResult};
-use j39_variants::{Alternative, Choice, ProductLine};
+use j39_variants::{Choice, ProductLine};
 use std::alloc::{AllocError, Global};
 
 fn place_taken(variant: &[usize], choice: usize) -> usize
@@ -40,33 +41,26 @@ fn alternative_label(line: &ProductLine, choice: usize, place: usize) -> &str
     }
 }
 
-fn is_reported(
-    line: &ProductLine,
-    alternatives: &[Alternative],
-    finding: LineFinding,
-    choice: usize,
-) -> bool
-    ensures { result ≡ is_reported line.now alternatives.now choice finding }
+fn is_reported(choices: &[bool], choice: usize) -> bool
+    ensures { result ≡ flag_at choices.now choice }
 {
-    let reporting = Reporting {
-        line,
-        alternatives,
-        choice,
-    };
-    reporting.is_reported(finding)
+    match choices.get(choice) {
+        Some(is) => *is,
+        None => false,
+    }
 }
 
-fn is_any_reported(line: &ProductLine, alternatives: &[Alternative], finding: LineFinding) -> bool
-    ensures { result ≡ is_any_reported line.now alternatives.now finding }
+fn is_any_reported(choices: &[bool]) -> bool
+    ensures { result ≡ list_any (λ is. is) choices.now }
 {
-    (0..line.choices.len()).any(|choice| is_reported(line, alternatives, finding, choice))
+    choices.iter().any(|is| *is)
 }
 
 // Writes the alternative of each choice that the witness of a finding takes, where it is reported.
 #[derive(Drop)]
 struct ReportedAlternatives<'a> {
     line: &'a ProductLine,
-    alternatives: &'a [Alternative],
+    choices: &'a [bool],
     variant: &'a [usize],
     finding: LineFinding,
 }
@@ -74,11 +68,11 @@ struct ReportedAlternatives<'a> {
 impl WriteLines<Choice> for ReportedAlternatives<'_> {
     ghost use Rattle.j39_line_text.specs.WitnessLines.{reported_alternative};
 
-    ghost lines = { λ w c _. reported_alternative w.line.now w.alternatives.now w.variant.now w.finding c };
+    ghost lines = { λ w c _. reported_alternative w.line.now w.choices.now w.variant.now c };
 
     #[tactic(auto, unfolding(crate::specs::WitnessLines::reported_alternative))]
     fn write(&self, text: &mut TextBuffer, at: usize, _choice: &Choice) -> WriteResult {
-        if is_reported(self.line, self.alternatives, self.finding, at) {
+        if is_reported(self.choices, at) {
             text.label(alternative_label(self.line, at, place_taken(self.variant, at)))
         } else {
             Ok(())
@@ -118,9 +112,9 @@ impl ReportedAlternatives<'_> {
     #[tactic(auto, unfolding(crate::specs::WitnessLines::witness_text))]
     fn write_witness(&self, text: &mut TextBuffer) -> WriteResult
         ensures { OnOk result (text.new ≡ text.old
-            ++ witness_text self.now.line.now self.now.alternatives.now self.now.variant.now self.now.finding) }
+            ++ witness_text self.now.line.now self.now.choices.now self.now.variant.now) }
     {
-        if is_any_reported(self.line, self.alternatives, self.finding) {
+        if is_any_reported(self.choices) {
             text.word(" in")?;
             write_each(text, self, &self.line.choices)
         } else {
@@ -132,7 +126,7 @@ impl ReportedAlternatives<'_> {
     #[tactic(auto, unfolding(crate::specs::WitnessLines::witness_line))]
     fn write_line(&self, text: &mut TextBuffer) -> WriteResult
         ensures { OnOk result (text.new ≡ text.old
-            ++ witness_line self.now.line.now self.now.alternatives.now self.now.variant.now self.now.finding) }
+            ++ witness_line self.now.line.now self.now.choices.now self.now.variant.now self.now.finding) }
     {
         write_line_finding(text, self.line, self.finding)?;
         self.write_witness(text)?;
@@ -145,20 +139,21 @@ impl ReportedAlternatives<'_> {
 struct Reports<'a> {
     alloc: Global,
     line: &'a ProductLine,
-    alternatives: &'a [Alternative],
 }
 
 impl WriteLines<ReportedFinding> for Reports<'_> {
     ghost use Rattle.j39_line_text.specs.WitnessLines.{witness_report};
 
-    ghost lines = { λ w _ reported. witness_report w.line.now w.alternatives.now reported.variant.items reported.finding };
+    ghost lines = { λ w _ reported. witness_report w.line.now reported.variant.items reported.finding };
 
     #[tactic(auto, unfolding(crate::specs::WitnessLines::witness_report))]
     fn write(&self, text: &mut TextBuffer, _at: usize, reported: &ReportedFinding) -> WriteResult {
+        let variant = reported.variant.as_slice();
+        let choices = reported_choices(self.alloc, self.line, variant, reported.finding)?;
         let alternatives = ReportedAlternatives {
             line: self.line,
-            alternatives: self.alternatives,
-            variant: reported.variant.as_slice(),
+            choices: &choices,
+            variant,
             finding: reported.finding,
         };
         alternatives.write_line(text)?;
@@ -195,17 +190,12 @@ fn write_all(
     alloc: Global,
     text: &mut TextBuffer,
     line: &ProductLine,
-    alternatives: &[Alternative],
     reported: &[ReportedFinding],
     many: Option<u64>,
 ) -> WriteResult
-    ensures { OnOk result (text.new ≡ text.old ++ findings_of_line_text line.now alternatives.now many reported.now) }
+    ensures { OnOk result (text.new ≡ text.old ++ findings_of_line_text line.now many reported.now) }
 {
-    let reports = Reports {
-        alloc,
-        line,
-        alternatives,
-    };
+    let reports = Reports { alloc, line };
     write_each(text, &reports, reported)?;
     write_many(text, many)?;
     text.field("findings ", count_with(many, reported))?;
@@ -219,11 +209,10 @@ pub(crate) fn findings_text(
     reported: &[ReportedFinding],
     many: Option<u64>,
 ) -> Result<TextBuffer, AllocError>
-    ensures { IfOk result (λ text. text ≡ findings_of_line_text line.now (alternatives_of line.now) many reported.now) }
+    ensures { IfOk result (λ text. text ≡ findings_of_line_text line.now many reported.now) }
 {
-    let alternatives = alternatives_of(alloc, line)?;
     let mut text = TextBuffer::new(alloc);
-    write_all(alloc, &mut text, line, &alternatives, reported, many)?;
+    write_all(alloc, &mut text, line, reported, many)?;
     Ok(text)
 }
 
@@ -241,7 +230,7 @@ struct UnreportedReports<'a>(Reports<'a>);
 impl WriteLines<ReportedFinding> for UnreportedReports<'_> {
     ghost use Rattle.j39_line_text.specs.WitnessLines.{unshown_report};
 
-    ghost lines = { λ w _ reported. unshown_report w.0.line.now w.0.alternatives.now reported.variant.items reported.finding };
+    ghost lines = { λ w _ reported. unshown_report w.0.line.now reported.variant.items reported.finding };
 
     #[tactic(auto, unfolding(crate::specs::WitnessLines::unshown_report))]
     fn write(&self, text: &mut TextBuffer, at: usize, reported: &ReportedFinding) -> WriteResult {
@@ -261,7 +250,7 @@ pub(crate) fn write_unshown(
     line: &ProductLine,
     reported: &[ReportedFinding],
 ) -> WriteResult
-    ensures { OnOk result (text.new ≡ text.old ++ unshown_of_line_text line.now (alternatives_of line.now) reported.now) }
+    ensures { OnOk result (text.new ≡ text.old ++ unshown_of_line_text line.now reported.now) }
 {
     let count = reported
         .iter()
@@ -270,12 +259,7 @@ pub(crate) fn write_unshown(
     if count == 0 {
         return Ok(());
     }
-    let alternatives = alternatives_of(alloc, line)?;
-    let reports = Reports {
-        alloc,
-        line,
-        alternatives: &alternatives,
-    };
+    let reports = Reports { alloc, line };
     write_each(text, &UnreportedReports(reports), reported)?;
     text.field("findings ", count)?;
     text.end_line()

@@ -1,3 +1,4 @@
+pub mod ChoiceLists
 pub mod Earlier
 pub mod Listing
 pub mod Meeting

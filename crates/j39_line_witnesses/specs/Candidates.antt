@@ -7,7 +7,7 @@ use Rattle.j39_findings.specs.declared.checking.finding.Finding.TheVariants.{Ans
 use Rattle.j39_findings.specs.declared.checking.finding.Finding.TheVariants.{RequestUnanswered, RequestUnheard, TooFewAddresses}
 use Rattle.j39_load.specs.declared.findings.load_finding.LoadFinding.TheVariants.{NoPeriod}
 use Rattle.j39_variants.specs.declared.line.ProductLine.{ProductLine}
-use Rattle.j39_line_findings.specs.Reported.{has_end_in_pool}
+use Rattle.j39_line_findings.specs.FlowEnds.{has_end_in_pool}
 use Rattle.j39_line_findings.specs.declared.line_finding.LineFinding.{LineFinding}
 use Rattle.j39_line_findings.specs.declared.line_finding.LineFinding.TheVariants.{OfPlan, OfLoad}
 

@@ -4,5 +4,6 @@ pub mod FlowTests
 pub mod PartBoxes
 pub mod PossibleParts
 pub mod Presences
+pub mod ReportedChoices
 pub mod WitnessLaws
 pub mod WitnessedFindings

@@ -4,7 +4,6 @@ ghost use Rattle.j39_findings.specs.declared.checking.finding.Finding.TheVariant
 ghost use Rattle.j39_findings.specs.declared.checking.finding.Finding.TheVariants.{PrivateUnsent, RequestUnanswered, RequestUnheard};
 ghost use Rattle.j39_load.specs.declared.findings.load_finding.LoadFinding.TheVariants.{NoPeriod};
 ghost use Rattle.j39_load.specs.LineLists.{lines_of_each};
-ghost use Rattle.j39_line_findings.specs.Reported.{are_at_one_address};
 ghost use Rattle.j39_line_findings.specs.Conditions.{astray_by, conditions_of, conditions_of_load, conditions_of_plan};
 ghost use Rattle.j39_line_findings.specs.Conditions.{contested_by, is_beside_end};
 ghost use Rattle.j39_line_findings.specs.Conditions.{unserved_condition};
@@ -19,7 +18,7 @@ use crate::presence::{
 use crate::private_pairs::conditions_of_groups;
 use j39_findings::Finding;
 use j39_findings::sending::may_name_receiver;
-use j39_line_findings::{LineFinding, LinePart, has_end_in_pool, is_end};
+use j39_line_findings::{LineFinding, LinePart, are_at_one_address, has_end_in_pool, is_end};
 use j39_load::LoadFinding;
 use j39_network::{FlowPlan, RequestPlan, To};
 use j39_variants::ProductLine;
@@ -79,15 +78,6 @@ fn astray_by_each(
         add_astray_by(alloc, line, &mut found, place, one, other, answered, flow)?;
     }
     Ok(found)
-}
-
-fn are_at_one_address(line: &ProductLine, unit: usize, other: usize) -> bool
-    ensures { result ≡ are_at_one_address line.now [] 0 unit other }
-{
-    match (line.plan.units.get(unit), line.plan.units.get(other)) {
-        (Some(planned), Some(another)) => planned.address == another.address,
-        _ => false,
-    }
 }
 
 // Whether a unit is planned at the address of an end of the flow, which is another one.

@@ -4,6 +4,7 @@
 
 mod asked;
 mod boxes;
+mod choices;
 mod conditions;
 mod flow_tests;
 mod found;
@@ -18,6 +19,7 @@ mod witness;
 
 pub use asked::candidates;
 pub use boxes::{list_box, never_holes, parts_box};
+pub use choices::reported_choices;
 pub use conditions::conditions_of;
 pub use found::{FoundByCondition, found_by_conditions};
 pub use laws::{boxes_are_exact, witnessed_are_exact};
