@@ -42,6 +42,7 @@ SAID = [
     ("flow 3 EEC1 ENGINE all seen 4 unclear 1", "flow", {"flow": 3, "group": "EEC1", "from": "ENGINE", "to": "all", "seen": 4, "unclear": 1}),
     ("request 2 VI TOOL ENGINE seen 5", "request", {"request": 2, "group": "VI", "from": "TOOL", "to": "ENGINE", "seen": 5}),
     ("unit ENGINE frames 7", "unit", {"unit": "ENGINE", "frames": 7}),
+    ("unit ENGINE frames 7 answers 2", "unit", {"unit": "ENGINE", "frames": 7, "answers": 2}),
     ("frames 18 skipped 0 bad 1 elsewhere 2 unsure 3 breaks 4 stamps 1000", "counts",
      {"frames": 18, "skipped": 0, "bad": 1, "elsewhere": 2, "unsure": 3, "breaks": 4, "stamps": 1000}),
     ("frames 18 skipped 0 bad 1 elsewhere 2 unsure 3 breaks 4 stamps 1000 again 5", "counts",

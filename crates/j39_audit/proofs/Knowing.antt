@@ -1,13 +1,15 @@
 -- What is known of units and addresses, behind a break and behind a claim.
-use Rattle.std.proofs.Common.{◌≡◌, ◌≢◌, ◌+◌, ◌*◌, ◌<◌, ◌≤◌, ◌==◌, ◌&&◌, ◌||◌, ℕ, List, [], ◌∷◌, Bool, true, false, cond, Option, Some, None, refl, sym, ap, arith, ◌∙◌, inl, inr, eq-eqb}
+use Rattle.std.proofs.Common.{◌≡◌, ◌≢◌, ◌+◌, ◌*◌, ◌<◌, ◌≤◌, ◌==◌, ◌&&◌, ◌||◌, ℕ, List, [], ◌∷◌, Bool, true, false, cond, Option, Some, None, refl, sym, ap, subst, arith, ◌∙◌, inl, inr, eq-eqb}
 use Rattle.std.specs.Prelude.{is_none, nat_lt, slice_index_or}
 use Rattle.std.specs.List.{list_any}
 use Rattle.std.proofs.lemmas.Bool.{cases_eq, cases_lt, le-ltb, lt-ltb, ne_eqb}
 use Rattle.j39_id.specs.Addresses.{is_address}
 use Rattle.j39_audit.specs.Claiming.{Heard, HeardClaims, has_claimed, knowledge, least_name, newest_of, smaller_name}
 use Rattle.j39_audit.specs.Settings.{Settings}
+use Rattle.j39_audit.specs.Requests.{GroupRequests}
 use Rattle.j39_audit.specs.declared.known.Known.{Known}
-use Rattle.j39_audit.specs.inside.Recalling.{KnowsClaims, known_by}
+use Rattle.j39_audit.specs.declared.requests.Requests.{Requests}
+use Rattle.j39_audit.specs.inside.Recalling.{KnowsClaims, known_by, RecallsRequests}
 
 and_false : (b : Bool) → (b && false) ≡ false
 and_false true = refl
@@ -20,7 +22,13 @@ known_knowledge s known claims knows = λ i. record {
   taken = λ a. knows.taken a i;
   least = λ a. knows.least a i;
   claimed = λ u a. knows.claimed u a i;
+  requests = record { ever = λ key. knows.requests.ever key i; newest = λ key. knows.requests.newest key i };
+  time = knows.time i;
 }
+
+-- where what was asked for stays, it is recalled
+pub still_requested : (old new : Requests) (r : GroupRequests) → new ≡ old → RecallsRequests old r → RecallsRequests new r
+still_requested old new r same recalls = subst (λ (k : Requests). RecallsRequests k r) (sym same) recalls
 
 -- ---- a break
 

@@ -38,7 +38,7 @@ is_again plan _ _ f = false
 -- what is known of a frame of this time and line, if it has one, that was seen so
 abbrev pub taken_frame : Option ℕ → Frame → ℕ → Sighting → Option TakenFrame
 taken_frame None f line w = None
-taken_frame (Some time) f line w = Some (record { frame = f; time = time; line = line; flow = w.flow; unit = w.unit })
+taken_frame (Some time) f line w = Some (record { frame = f; time = time; line = line; flow = w.flow; request = w.request; unit = w.unit })
 
 -- ---- what they change
 

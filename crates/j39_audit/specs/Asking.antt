@@ -9,7 +9,7 @@ use Rattle.j39_network.specs.declared.plan.timing.Timing.{Timing}
 use Rattle.j39_audit.specs.Claiming.{Knowledge, is_at, may_be, sender_at}
 use Rattle.j39_audit.specs.Counting.{Noted}
 use Rattle.j39_audit.specs.Looking.{claimant, is_claim, is_claiming}
-use Rattle.j39_audit.specs.MessageStreams.{longest_us}
+use Rattle.j39_audit.specs.UnitTimes.{longest_us}
 use Rattle.j39_audit.specs.Moments.{long_before}
 use Rattle.j39_audit.specs.SentMessages.{noted_at}
 use Rattle.j39_audit.specs.Settings.{Settings, logger_error, moves}

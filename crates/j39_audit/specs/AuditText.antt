@@ -26,7 +26,7 @@ use Rattle.j39_audit.specs.Asking.{Asking, all_forgotten, asking_behind, nobody_
 use Rattle.j39_audit.specs.Below.{each_below, sum_below}
 use Rattle.j39_audit.specs.BegunBroadcasts.{BegunBroadcasts, all_ended as all_broadcasts_ended, announcement_in, broadcasts_before, broadcasts_behind, no_broadcasts, packet_with}
 use Rattle.j39_audit.specs.Breaks.{breaks, line_time, newest_behind}
-use Rattle.j39_audit.specs.Claiming.{HeardClaims, broken_off, knowledge, no_claims}
+use Rattle.j39_audit.specs.Claiming.{HeardClaims, broken_off, come_to, knowledge, no_claims, with_requests}
 use Rattle.j39_audit.specs.Counting.{Noted, most_times, reported_in}
 use Rattle.j39_audit.specs.Gaps.{ends_gap, quiet_by}
 use Rattle.j39_audit.specs.Looking.{IsPacketOf, break_noted, claims_behind, frame_noted, noted_if}
@@ -40,7 +40,7 @@ use Rattle.j39_audit.specs.declared.again.TakenFrame.{TakenFrame}
 use Rattle.j39_audit.specs.declared.by_load.Bound.TheVariants.{Bus}
 use Rattle.j39_audit.specs.declared.mark.Mark.{Mark}
 use Rattle.j39_audit.specs.declared.mark.Word.{Word}
-use Rattle.j39_audit.specs.declared.mark.Word.TheVariants.{Short, Stranger, Nobody, Address, Cannot, Layout, NoFlow, Priority, Urgent, Seen, Unclear, Asked, Counted, Unsure, Break, NearFlow, NearRequest, SilentFlow, Deaf, NearPackets, SilentPackets, NearOrLate, SilentOrLate}
+use Rattle.j39_audit.specs.declared.mark.Word.TheVariants.{Short, Stranger, Nobody, Address, Cannot, Layout, NoFlow, Priority, Urgent, Seen, Unclear, Asked, Counted, Unsure, Break, NearFlow, NearRequest, SilentFlow, Deaf, NearPackets, SilentPackets, NearOrLate, SilentOrLate, Answers}
 use Rattle.j39_audit.specs.declared.tally.Occurrences.{Occurrences}
 
 -- ---- a log
@@ -113,7 +113,8 @@ passed_by s _ past = bad_line s past
 
 -- the claims just before a frame of this time
 abbrev pub claims_before : Settings → AuditPast → Option ℕ → HeardClaims
-claims_before s past time = broken_off (breaks s.stamps past.newest time) past.claims
+claims_before s past time =
+    come_to (begins_anew s.stamps past.newest time) time (broken_off (breaks s.stamps past.newest time) past.claims)
 
 -- a gap ends just before it
 abbrev pub gap_before : Settings → AuditPast → Option ℕ → Bool
@@ -148,7 +149,7 @@ past_with_frame s past time named f packet = record past {
   newest = newest_behind s.stamps past.newest time;
   before = time;
   taken = taken_frame time f past.number (sighted_behind nothing_sighted (noted_newly s past time f packet));
-  claims = claims_with_frame s past time f;
+  claims = with_requests s.plan time f (sighted_behind nothing_sighted (noted_newly s past time f packet)).request (claims_with_frame s past time f);
   noted = past.noted ++ noted_newly s past time f packet;
   moments = with_packet_stream s time past.number (packet_with s.plan.timing (counted_for s past time f packet) f (broadcasts_there s past time f))
       (moments_with_frame s s past time f packet past.moments);
@@ -160,7 +161,7 @@ past_with_frame s past time named f packet = record past {
   frames = past.frames + 1;
 }
 
--- with a frame of this flow, unit and line that stands there again, at this time
+-- with a frame of this flow, unit and line that stands there again, at this time; one that asks asks again
 abbrev pub with_again : Settings → Option ℕ → Option ℕ → ℕ → ℕ → AuditPast → AuditPast
 with_again s flow unit line time past = record past {
   again = min (past.again + 1) most_times;
@@ -170,7 +171,8 @@ with_again s flow unit line time past = record past {
 }
 
 unfoldable pub past_again : Settings → Option TakenFrame → Option ℕ → AuditPast → AuditPast
-past_again s (Some one) (Some time) past = with_again s one.flow one.unit one.line time past
+past_again s (Some one) (Some time) past =
+    record (with_again s one.flow one.unit one.line time past) { claims = with_requests s.plan (Some time) one.frame one.request past.claims }
 past_again s _ _ past = past
 
 -- and of a line that names this interface
@@ -387,8 +389,12 @@ unfoldable pub request_seen_line : Plan → ℕ → RequestPlan → ℕ → List
 request_seen_line plan n r seen =
     place_field (codes "request ") n ++ (sending_text plan r.group r.sender r.to ++ (field (codes " seen ") seen ++ 10 ∷ []))
 
-unfoldable pub unit_frames_line : Plan → ℕ → ℕ → List ℕ
-unit_frames_line plan u frames = codes "unit " ++ (unit_label plan u ++ (field (codes " frames ") frames ++ 10 ∷ []))
+-- how many messages were asked for that no flow brings there, where some were
+unfoldable pub answers_text : ℕ → List ℕ
+answers_text answers = if answers == 0 then [] else field (codes " answers ") answers
+
+unfoldable pub unit_frames_line : Plan → ℕ → ℕ → ℕ → List ℕ
+unit_frames_line plan u frames answers = codes "unit " ++ (unit_label plan u ++ (field (codes " frames ") frames ++ (answers_text answers ++ 10 ∷ [])))
 
 abbrev pub flow_seen : Plan → Look → ℕ → List ℕ
 flow_seen plan look n =
@@ -399,7 +405,7 @@ request_seen plan look n =
     option_map_or (λ (r : RequestPlan). request_seen_line plan n r (times_of look Asked n)) (slice_get plan.requests.items n) []
 
 abbrev pub unit_seen : Plan → Look → ℕ → List ℕ
-unit_seen plan look u = unit_frames_line plan u (times_of look Counted u)
+unit_seen plan look u = unit_frames_line plan u (times_of look Counted u) (times_of look Answers u)
 
 unfoldable pub flows_seen : Plan → Look → List ℕ
 flows_seen plan look = each_below (flow_seen plan look) (length plan.flows.items)

@@ -14,7 +14,8 @@ use Rattle.j39_tp.specs.declared.packet.Packet.TheVariants.{Bam}
 use Rattle.j39_audit.specs.Claiming.{Knowledge}
 use Rattle.j39_audit.specs.Counting.{Noted, noted_by}
 use Rattle.j39_audit.specs.Looking.{announced_message}
-use Rattle.j39_audit.specs.MessageStreams.{longest_us, shortest_us, stream_mark}
+use Rattle.j39_audit.specs.MessageStreams.{stream_mark}
+use Rattle.j39_audit.specs.UnitTimes.{longest_us, shortest_us}
 use Rattle.j39_audit.specs.Moments.{long_before}
 use Rattle.j39_audit.specs.Near.{excess}
 use Rattle.j39_audit.specs.SentMessages.{SentMessage, is_fit}

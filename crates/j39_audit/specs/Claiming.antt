@@ -4,8 +4,11 @@ use Rattle.std.specs.FinSet.{contains}
 use Rattle.std.specs.List.{list_any, slice_get}
 use Rattle.std.specs.Option.{option_map_or}
 use Rattle.j39_id.specs.Addresses.{in_pool, is_address, null_address}
+use Rattle.j39_id.specs.declared.frame.Frame.{Frame}
+use Rattle.j39_network.specs.declared.plan.Plan.{Plan}
 use Rattle.j39_network.specs.declared.plan.unit_plan.UnitPlan.{UnitPlan}
 use Rattle.j39_audit.specs.Below.{any_below, first_below}
+use Rattle.j39_audit.specs.Requests.{GroupRequests, is_asked_for, nothing_requested, requests_before, requests_behind}
 use Rattle.j39_audit.specs.Settings.{Settings, moves, units_planned}
 use Rattle.j39_audit.specs.declared.senders.SureSender.{SureSender}
 use Rattle.j39_audit.specs.declared.senders.SureSender.TheVariants.{Unit as OfUnit, Nobody, Unknown}
@@ -18,20 +21,30 @@ pub record Heard : Type 0 where
   pub source : ℕ
   pub name : ℕ
 
--- the claims before a frame, the newest one first: all of them, and those from the last break on
+-- the claims before a frame, the newest one first: all of them, and those from the last break on; what was asked for before it; and its time
 pub record HeardClaims : Type 0 where
   pub all : List Heard
   pub recent : List Heard
+  pub requests : GroupRequests
+  pub time : Option ℕ
 
 abbrev pub no_claims : HeardClaims
-no_claims = record { all = []; recent = [] }
+no_claims = record { all = []; recent = []; requests = nothing_requested; time = None }
 
 -- behind a break
 abbrev pub broken_off : Bool → HeardClaims → HeardClaims
 broken_off broken claims = if broken then record claims { recent = [] } else claims
 
 abbrev pub with_claim : Heard → HeardClaims → HeardClaims
-with_claim h claims = record { all = h ∷ claims.all; recent = h ∷ claims.recent }
+with_claim h claims = record claims { all = h ∷ claims.all; recent = h ∷ claims.recent }
+
+-- just before a frame of this time, where times begin anew or go on
+abbrev pub come_to : Bool → Option ℕ → HeardClaims → HeardClaims
+come_to anew time claims = record claims { requests = requests_before anew claims.requests; time = time }
+
+-- with a frame that is seen of this request of the plan, or of none
+abbrev pub with_requests : Plan → Option ℕ → Frame → Option ℕ → HeardClaims → HeardClaims
+with_requests plan time f seen claims = record claims { requests = requests_behind plan time f seen claims.requests }
 
 abbrev pub is_at : Option ℕ → ℕ → Bool
 is_at None a = false
@@ -56,12 +69,14 @@ unfoldable pub has_claimed : ℕ → ℕ → List Heard → Bool
 has_claimed u a claims = list_any (λ (h : Heard). is_at h.unit u && h.source == a) claims
 
 -- what is known of the units and the addresses: where each unit claimed last, which addresses were claimed by a NAME of no unit, the smallest NAME that
--- claimed each, and which of them each unit claimed
+-- claimed each, and which of them each unit claimed; what was asked for, and the time of the frame at hand
 pub record Knowledge : Type 0 where
   pub last : ℕ → Option ℕ
   pub taken : ℕ → Bool
   pub least : ℕ → Option ℕ
   pub claimed : ℕ → ℕ → Bool
+  pub requests : GroupRequests
+  pub time : Option ℕ
 
 -- a unit that may move may have moved unheard before a break, and any in a part of what the bus carried
 abbrev pub last_claim_of : Settings → HeardClaims → ℕ → Option ℕ
@@ -76,6 +91,8 @@ knowledge s claims = record {
   taken = is_strangers claims;
   least = λ a. least_name a claims.all;
   claimed = λ u a. has_claimed u a claims.all;
+  requests = claims.requests;
+  time = claims.time;
 }
 
 -- ---- addresses
@@ -109,6 +126,12 @@ is_claimed_last s k a = any_below (λ u. is_at (k.last u) a) (units_planned s)
 unfoldable pub is_strange : Settings → Knowledge → ℕ → Bool
 is_strange s k a =
     k.taken a || (has_strangers s && (in_pool a && not (is_claimed_last s k a)))
+
+-- ---- what was asked for
+
+-- a message of this number, from this source: by any requests, or by those that are none of the plan's
+abbrev pub was_asked_for : Settings → Knowledge → Bool → ℕ → ℕ → Bool
+was_asked_for s k besides number source = is_asked_for s k.time k.requests besides number source
 
 -- ---- the sender
 

@@ -12,8 +12,10 @@ pub mod MessageStreams
 pub mod Moments
 pub mod Near
 pub mod Pauses
+pub mod Requests
 pub mod Responses
 pub mod SentMessages
 pub mod Settings
 pub mod Silence
+pub mod UnitTimes
 pub mod inside

@@ -16,13 +16,13 @@ use Rattle.j39_follow.specs.Who.{unit_of_name}
 use Rattle.j39_log.specs.LogFrames.{IsPacket}
 use Rattle.j39_tp.specs.declared.packet.Packet.{Packet}
 use Rattle.j39_tp.specs.declared.packet.Packet.TheVariants.{Rts, Bam}
-use Rattle.j39_audit.specs.Claiming.{HeardClaims, Heard, Knowledge, gives_way, has_strangers, is_address_of, knowledge, sender_at, with_claim}
+use Rattle.j39_audit.specs.Claiming.{HeardClaims, Heard, Knowledge, gives_way, has_strangers, is_address_of, knowledge, sender_at, was_asked_for, with_claim}
 use Rattle.j39_audit.specs.Counting.{Noted}
 use Rattle.j39_audit.specs.SentMessages.{SentMessage, deviation, first_group, flows_noted, noted_at, requests_noted}
 use Rattle.j39_audit.specs.Settings.{Settings}
 use Rattle.j39_audit.specs.declared.mark.Mark.{Mark}
 use Rattle.j39_audit.specs.declared.mark.Word.{Word}
-use Rattle.j39_audit.specs.declared.mark.Word.TheVariants.{Stranger, Nobody as NobodyThere, Address, Cannot, Urgent, Counted, Unsure, Break}
+use Rattle.j39_audit.specs.declared.mark.Word.TheVariants.{Stranger, Nobody as NobodyThere, Address, Cannot, NoFlow, Urgent, Counted, Unsure, Break, Answered, Answers, Besides}
 use Rattle.j39_audit.specs.declared.messages.Test.TheVariants.{Any}
 use Rattle.j39_audit.specs.declared.senders.SureSender.{SureSender}
 use Rattle.j39_audit.specs.declared.senders.SureSender.TheVariants.{Unit as OfUnit, Nobody, Unknown}
@@ -100,6 +100,7 @@ is_single pgn = not (pgn == address_claimed || (pgn == request || (pgn == connec
 abbrev pub single : ℕ → Frame → SentMessage
 single u f = record {
   unit = u;
+  source = f.ident.sa;
   number = pgn_of f.ident;
   destination = f.ident.ps;
   unaddressed = is_pdu2 (pgn_of f.ident);
@@ -112,6 +113,7 @@ single u f = record {
 abbrev pub announced_message : ℕ → Frame → ℕ → ℕ → SentMessage
 announced_message u f size pgn = record {
   unit = u;
+  source = f.ident.sa;
   number = pgn;
   destination = f.ident.ps;
   unaddressed = false;
@@ -132,9 +134,42 @@ message_sent u f packet = if is_single (pgn_of f.ident) then Some (single u f) e
 abbrev pub requested : ℕ → Frame → SentMessage
 requested u f = announced_message u f 0 (requested_group f)
 
+-- a message that no flow may bring there, and that was asked for, answers; so it isn't told how it differs
+abbrev pub is_no_flow : Word → Bool
+is_no_flow NoFlow = true
+is_no_flow _ = false
+
+abbrev pub is_answer : Bool → Option Mark → Bool
+is_answer asked None = false
+is_answer asked (Some m) = asked && is_no_flow m.word
+
+unfoldable pub answers_request : Settings → Knowledge → SentMessage → Bool
+answers_request s k m = is_answer (was_asked_for s k false m.number m.source) (deviation s k m)
+
+abbrev pub told_of : Bool → Option Mark → Option Mark
+told_of answers mark = if answers then None else mark
+
+abbrev pub told : Settings → Knowledge → SentMessage → Option Mark
+told s k m = told_of (answers_request s k m) (deviation s k m)
+
+-- but that it does, and from which group
+abbrev pub answer_of : ℕ → Option Mark → List Noted
+answer_of line None = []
+answer_of line (Some m) = noted_at line Answered m.subject m.group ∷ noted_at line Answers m.subject 0 ∷ []
+
+abbrev pub answer_noted : ℕ → Bool → Option Mark → List Noted
+answer_noted line answers mark = if answers then answer_of line mark else []
+
+-- what was asked for by none of the plan's requests
+abbrev pub besides_noted : Settings → Knowledge → SentMessage → ℕ → List Noted
+besides_noted s k m line = noted_if (was_asked_for s k true m.number m.source) (noted_at line Besides 0 0)
+
+abbrev pub asked_noted : Settings → Knowledge → SentMessage → ℕ → List Noted
+asked_noted s k m line = answer_noted line (answers_request s k m) (deviation s k m) ++ besides_noted s k m line
+
 abbrev pub message_noted : Settings → Knowledge → ℕ → Option SentMessage → List Noted
 message_noted s k line None = []
-message_noted s k line (Some m) = mark_noted line (deviation s k m) ++ flows_noted s k m line
+message_noted s k line (Some m) = mark_noted line (told s k m) ++ (flows_noted s k m line ++ asked_noted s k m line)
 
 abbrev pub request_noted : Settings → Knowledge → ℕ → Frame → ℕ → List Noted
 request_noted s k u f line = if requests_group f then requests_noted s k (requested u f) line else []

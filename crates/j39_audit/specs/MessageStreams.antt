@@ -1,6 +1,5 @@
 -- Streams: messages whose moments are a step apart at least, and how long behind its moment one may be queued, or sent.
-use Rattle.std.specs.Prelude.{ℕ, ◌+◌, ◌-◌, ◌*◌, ◌/◌, nat_le, nat_lt, ◌==◌, ◌&&◌, not, Bool, true, false, if◌then◌else◌, List, [], ◌∷◌, Option, Some, None}
-use Rattle.std.specs.Int.{div_ceil}
+use Rattle.std.specs.Prelude.{ℕ, ◌+◌, nat_le, nat_lt, ◌==◌, ◌&&◌, not, Bool, true, false, if◌then◌else◌, List, [], ◌∷◌, Option, Some, None}
 use Rattle.std.specs.List.{slice_get}
 use Rattle.std.specs.Option.{option_and_then, option_map}
 use Rattle.j39_id.specs.Ident.{pgn_of}
@@ -16,24 +15,15 @@ use Rattle.j39_network.specs.declared.plan.timing.Timing.{Timing}
 use Rattle.j39_audit.specs.Counting.{Noted}
 use Rattle.j39_audit.specs.Looking.{is_claiming, is_single}
 use Rattle.j39_audit.specs.Settings.{Settings, response_of}
+use Rattle.j39_audit.specs.UnitTimes.{longest_us, shortest_us}
 use Rattle.j39_audit.specs.declared.by_load.Bound.{Bound}
 use Rattle.j39_audit.specs.declared.by_load.Bound.TheVariants.{Bus, Load}
 use Rattle.j39_audit.specs.declared.mark.Mark.{Mark}
-use Rattle.j39_audit.specs.declared.mark.Word.TheVariants.{Seen, Asked, Counted, Layout, NoFlow, Priority, NearFlow, NearRequest}
+use Rattle.j39_audit.specs.declared.mark.Word.TheVariants.{Seen, Asked, Counted, Layout, NoFlow, Priority, NearFlow, NearRequest, Answered, Besides}
 use Rattle.j39_audit.specs.declared.mark.Word.{Word}
 use Rattle.j39_audit.specs.declared.streams.FlowPause.{FlowPause}
 use Rattle.j39_audit.specs.declared.streams.MessageStream.{MessageStream}
 use Rattle.j39_audit.specs.declared.tally.Sighting.{Sighting}
-
--- ---- times of units
-
--- so many milliseconds of a unit's clock, in microseconds of the logger's: at least, and at most. The unit's clock differs from true time by
--- the plan's drift, and the logger's by a thousandth
-abbrev pub shortest_us : Timing → ℕ → ℕ
-shortest_us t ms = 999 * ms * (1000000 - t.drift) / 1000000
-
-abbrev pub longest_us : Timing → ℕ → ℕ
-longest_us t ms = div_ceil (1001 * ms * (1000000 + t.drift)) 1000000
 
 -- ---- streams
 
@@ -125,9 +115,10 @@ asked_stream s t f n = option_and_then (λ (period : ℕ). paced_request s t f n
 
 -- ---- a frame
 
--- of which flow and of which request a frame is seen, for which unit it counts, and from which of its groups a message deviates, by what was noted of it
+-- of which flow and of which request a frame is seen, for which unit it counts, from which of its groups a message deviates, and whether it was asked for by none
+-- of the plan's requests, by what was noted of it
 abbrev pub nothing_sighted : Sighting
-nothing_sighted = record { flow = None; request = None; unit = None; deviating = None }
+nothing_sighted = record { flow = None; request = None; unit = None; deviating = None; besides = false }
 
 abbrev pub sighted_as : Word → ℕ → ℕ → Sighting → Sighting
 sighted_as Seen n g w = record w { flow = Some n }
@@ -136,6 +127,8 @@ sighted_as Counted n g w = record w { unit = Some n }
 sighted_as Layout n g w = record w { deviating = Some g }
 sighted_as NoFlow n g w = record w { deviating = Some g }
 sighted_as Priority n g w = record w { deviating = Some g }
+sighted_as Answered n g w = record w { deviating = Some g }
+sighted_as Besides n g w = record w { besides = true }
 sighted_as _ n g w = w
 
 abbrev pub sighted_behind : Sighting → List Noted → Sighting

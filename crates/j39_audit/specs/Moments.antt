@@ -242,17 +242,22 @@ begun_anew s anew gap m =
 
 -- ---- a frame
 
+-- a message that was asked for by none of the plan's requests may have been sent besides those of its stream
+abbrev pub with_message_of : Bool → MessageStream → Window → ℕ → Moments → Moments
+with_message_of true stream window line m = m
+with_message_of false stream window line m = with_message stream window line m
+
 -- with a message of a stream, if the frame is one
-abbrev pub with_stream : Settings → ℕ → ℕ → Option MessageStream → Moments → Moments
-with_stream s time line None m = m
-with_stream s time line (Some stream) m =
+abbrev pub with_stream : Settings → ℕ → ℕ → Bool → Option MessageStream → Moments → Moments
+with_stream s time line besides None m = m
+with_stream s time line besides (Some stream) m =
     with_pause stream.pause stream.mark.subject (moment_window s stream.slack time m.since) line
-    (with_message stream (moment_window s stream.slack time m.since) line m)
+    (with_message_of besides stream (moment_window s stream.slack time m.since) line m)
 
 -- behind a frame of this time that is seen so, may be a message of each of several flows, and ends these pauses
 abbrev pub with_time : Settings → Option Timing → Bool → Option ℕ → Frame → ℕ → Sighting → List ℕ → Ending → Moments → Moments
 with_time s (Some t) gap (Some time) f line w unclear ending m =
-    with_counted s w.unit line (with_stream s time line (sighted_stream s t f w.flow w.request) (with_deviating s w.deviating w.unit
+    with_counted s w.unit line (with_stream s time line w.besides (sighted_stream s t f w.flow w.request) (with_deviating s w.deviating w.unit
     (listed_pauses_ended s t unclear (length unclear) (with_ending s t ending (with_moment s t gap (length f.payload.items) time m)))))
 with_time s _ gap _ f line w unclear ending m = m
 

@@ -19,10 +19,11 @@ use Rattle.j39_audit.specs.declared.mark.Word.TheVariants.{Layout, NoFlow, Prior
 use Rattle.j39_audit.specs.declared.messages.Test.{Test}
 use Rattle.j39_audit.specs.declared.messages.Test.TheVariants.{Fitting, Selected, Any}
 
--- what a unit sent: the number of a group, whereto, whether in a single frame that names no destination, with this priority where it is a
+-- what a unit sent: from where, the number of a group, whereto, whether in a single frame that names no destination, with this priority where it is a
 -- single frame, so many bytes, and these, where it is a single frame
 pub record SentMessage : Type 0 where
   pub unit : ℕ
+  pub source : ℕ
   pub number : ℕ
   pub destination : ℕ
   pub unaddressed : Bool

@@ -17,13 +17,15 @@ use crate::tally::Sighting;
 use j39_id::Frame;
 use j39_network::{Plan, Timing};
 
-/// A frame with a time in microseconds and its line, the flow of which it was seen, and the unit for which it counted.
+/// A frame with a time in microseconds and its line, the flow and the request of which it was seen, and the unit for which
+/// it counted.
 #[derive(Drop)]
 pub struct TakenFrame {
     pub frame: Frame,
     pub time: u64,
     pub line: u64,
     pub flow: Option<usize>,
+    pub request: Option<usize>,
     pub unit: Option<usize>,
 }
 
@@ -102,6 +104,7 @@ pub(crate) fn taken_frame(
             time,
             line,
             flow: sighting.flow,
+            request: sighting.request,
             unit: sighting.unit,
         }),
         None => None,

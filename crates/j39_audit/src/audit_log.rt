@@ -297,6 +297,7 @@ impl<'a> AuditLog<'a> {
             self.number,
             broken,
         )?;
+        self.known.come_to(&self.basis, anew, time);
         let ending = ending_of(&self.basis, &self.known, frame);
         self.asking.take(
             &self.basis,
@@ -319,7 +320,8 @@ impl<'a> AuditLog<'a> {
             self.number,
         )?;
         self.take_times(gap, anew, time, frame, ending, announced)?;
-        Ok(())
+        let request = self.tally.sighting.request;
+        self.known.take_request(&self.basis, time, frame, request)
     }
 
     // Takes a line of an 11-bit identifier.
@@ -404,26 +406,29 @@ impl<'a> AuditLog<'a> {
 
     // Takes the frame before, if there is one, which stands there again at this time, if it has one.
     #[tactic(auto, unfolding(crate::specs::AuditText::past_again))]
-    fn take_taken(&mut self, time: Option<u64>)
+    fn take_taken(&mut self, time: Option<u64>) -> Result<(), AllocError>
         requires time { IfSome time (λ t. t < 2 ^ 61) }
         requires near { AreAllNear self.old }
-        ensures near { AreAllNear self.new }
+        ensures near { OnOk result (AreAllNear self.new) }
         ensures basis { self.new.basis ≡ self.old.basis }
         ensures number { self.new.number ≡ self.old.number }
         ensures counts { self.new.counts ≡ self.old.counts }
-        ensures again { (past : AuditPast) → RecallsAudit self.old past
-            → RecallsAudit self.new (past_again (settings_of self.new.basis) past.taken time past) }
+        ensures again { OnOk result ((past : AuditPast) → RecallsAudit self.old past
+            → RecallsAudit self.new (past_again (settings_of self.new.basis) past.taken time past)) }
     {
         let Some(one) = &self.taken else {
-            return;
+            return Ok(());
         };
-        let Some(time) = time else {
-            return;
+        let Some(at) = time else {
+            return Ok(());
         };
+        self.known
+            .take_request(&self.basis, time, &one.frame, one.request)?;
         let flow = one.flow;
         let unit = one.unit;
         let line = one.line;
-        self.take_again(flow, unit, line, time);
+        self.take_again(flow, unit, line, at);
+        Ok(())
     }
 
     // Takes a line of the frame before, which stands there again at this time, and that names this interface.
@@ -437,7 +442,7 @@ impl<'a> AuditLog<'a> {
         ensures number { self.new.number ≡ self.old.number }
         ensures counts { self.new.counts ≡ self.old.counts }
     {
-        self.take_taken(time);
+        self.take_taken(time)?;
         keep_interface(self.alloc, &mut self.interface, named)
     }
 

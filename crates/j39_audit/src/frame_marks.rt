@@ -10,7 +10,8 @@ ghost use Rattle.j39_audit.specs.Looking.{has_to_give_way, has_to_say_cannot, ma
 ghost use Rattle.j39_audit.specs.Looking.{claim_of_unit, claim_place, claims_behind, counted, frame_noted, is_above_unplanned as is_above};
 ghost use Rattle.j39_audit.specs.Looking.{is_claim, is_claiming as claims_addresses, is_of_transport as is_for_transport, may_be_transport, is_of_own_group};
 ghost use Rattle.j39_audit.specs.Looking.{is_single as is_single_number, is_urgent as is_urgent_frame, mark_noted, message_noted};
-ghost use Rattle.j39_audit.specs.Looking.{message_sent, noted_if, request_noted, sent_noted, single as single_message};
+ghost use Rattle.j39_audit.specs.Looking.{answer_noted, answers_request, asked_noted, is_no_flow, told_of, message_sent, noted_if, request_noted, sent_noted, single as single_message};
+ghost use Rattle.j39_audit.specs.SentMessages.{deviation as differing_as};
 ghost use Rattle.j39_audit.specs.inside.Recalling.{IsWithinUnits, KnowsClaims, Notes, known_by, sent_as, settings_of};
 
 use crate::basis::Basis;
@@ -200,6 +201,7 @@ fn single(unit: usize, frame: &Frame) -> UnitMessage<'_>
     let pgn = frame.ident.pgn();
     UnitMessage {
         unit,
+        source: frame.ident.sa,
         number: pgn.number(),
         destination: frame.ident.ps,
         unaddressed: !pgn.is_pdu1(),
@@ -220,6 +222,7 @@ pub(crate) fn announced(
 {
     UnitMessage {
         unit,
+        source: frame.ident.sa,
         number,
         destination: frame.ident.ps,
         unaddressed: false,
@@ -268,6 +271,82 @@ fn note_deviation(tally: &mut MarkTally, mark: Option<Mark>, line: u64) -> Resul
     }
 }
 
+// Whether no flow may bring a message there.
+fn is_no_flow(word: Word) -> bool
+    ensures { result ≡ is_no_flow word }
+{
+    matches!(word, Word::NoFlow)
+}
+
+// Whether a message that differs so answers.
+#[tactic(auto, unfolding(crate::specs::Looking::answers_request))]
+fn answers_request(
+    basis: &Basis<'_>,
+    known: &Known,
+    message: &UnitMessage<'_>,
+    mark: Option<Mark>,
+) -> bool
+    requires { mark ≡ differing_as (settings_of basis.now) (known_by known.now) (sent_as message.now) }
+    ensures { result ≡ answers_request (settings_of basis.now) (known_by known.now) (sent_as message.now) }
+{
+    match mark {
+        Some(mark) => {
+            is_no_flow(mark.word)
+                && known.was_asked_for(basis, false, message.number, message.source)
+        }
+        None => false,
+    }
+}
+
+// Notes that a message that differs so answers, if it does.
+fn note_answer(
+    tally: &mut MarkTally,
+    answers: bool,
+    mark: Option<Mark>,
+    line: u64,
+) -> Result<(), AllocError>
+    ensures { OnOk result (Notes tally.old tally.new (answer_noted line answers mark)) }
+{
+    if !answers {
+        return Ok(());
+    }
+    let Some(mark) = mark else {
+        return Ok(());
+    };
+    let answered = Mark {
+        word: Word::Answered,
+        ..mark
+    };
+    tally.note(answered, line, 0)?;
+    tally.note(make_mark(Word::Answers, mark.subject), line, 0)
+}
+
+// How a message differs, unless it answers.
+fn told_of(answers: bool, mark: Option<Mark>) -> Option<Mark>
+    ensures { result ≡ told_of answers mark }
+{
+    if answers { None } else { mark }
+}
+
+// Notes what was asked for: that a message that differs so answers, and whether none of the plan's requests asked for it.
+fn note_asked(
+    tally: &mut MarkTally,
+    basis: &Basis<'_>,
+    known: &Known,
+    message: &UnitMessage<'_>,
+    answers: bool,
+    mark: Option<Mark>,
+    line: u64,
+) -> Result<(), AllocError>
+    requires mark { mark ≡ differing_as (settings_of basis.now) (known_by known.now) (sent_as message.now) }
+    requires answers { answers ≡ answers_request (settings_of basis.now) (known_by known.now) (sent_as message.now) }
+    ensures { OnOk result (Notes tally.old tally.new (asked_noted (settings_of basis.now) (known_by known.now) (sent_as message.now) line)) }
+{
+    note_answer(tally, answers, mark, line)?;
+    let besides = known.was_asked_for(basis, true, message.number, message.source);
+    note_if(tally, besides, make_mark(Word::Besides, 0), line, 0)
+}
+
 // Notes what a message is, and how it differs, if there is one.
 fn note_message(
     tally: &mut MarkTally,
@@ -282,9 +361,11 @@ fn note_message(
         return Ok(());
     };
     let meant = flows_meant(basis, known, &message);
-    note_deviation(tally, deviation(basis, known, &message, meant), line)?;
+    let mark = deviation(basis, known, &message, meant);
+    let answers = answers_request(basis, known, &message, mark);
+    note_deviation(tally, told_of(answers, mark), line)?;
     note_flows(tally, basis, known, &message, meant, line)?;
-    Ok(())
+    note_asked(tally, basis, known, &message, answers, mark, line)
 }
 
 // Notes the request that a frame is.

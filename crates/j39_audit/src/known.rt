@@ -1,23 +1,26 @@
 //! What the claims of a log report of units and addresses.
-ghost use Rattle.std.specs.Prelude.{◌≡◌, ◌+◌, ◌*◌, ◌≢◌, ◌<◌, ◌≤◌, ℕ, true, false, Some, None, IfOk, IfSome, if◌then◌else◌, length, slice_index_or};
-ghost use Rattle.j39_audit.specs.Claiming.{HeardClaims, broken_off, no_claims, smaller_name, with_claim};
+ghost use Rattle.std.specs.Prelude.{◌≡◌, ◌+◌, ◌*◌, ◌≢◌, ◌<◌, ◌≤◌, ℕ, true, false, Some, None, IfOk, IfSome, OnOk, if◌then◌else◌, length, slice_index_or};
+ghost use Rattle.j39_audit.specs.Claiming.{HeardClaims, broken_off, come_to, no_claims, smaller_name, was_asked_for, with_claim, with_requests};
 ghost use Rattle.j39_audit.specs.Settings.{moves};
-ghost use Rattle.j39_audit.specs.inside.Recalling.{KnowsClaims, claimed_in, last_in, least_in, settings_of, taken_in};
+ghost use Rattle.j39_audit.specs.inside.Recalling.{KnowsClaims, claimed_in, known_by, last_in, least_in, settings_of, taken_in};
 
 use crate::basis::Basis;
 use crate::places::{kept_at, nothing_kept};
+use crate::requests::Requests;
+use j39_id::Frame;
 use std::alloc::{AllocError, Global};
 
 const ADDRESSES: usize = 256;
 
 /// Where each unit claimed last, which addresses were claimed by a NAME of no unit, the smallest NAME that claimed each
-/// address, and of each unit in a row which ones it claimed.
+/// address, of each unit in a row which ones it claimed, what was asked for, and the time of the frame at hand.
 #[derive(Drop)]
 pub(crate) struct Known {
     pub last: Vec<Option<u8>>,
     pub taken: Vec<bool>,
     pub least: Vec<Option<u64>>,
     pub claimed: Vec<bool>,
+    pub requests: Requests,
 }
 
 // Of so many none is set.
@@ -56,6 +59,7 @@ impl Known {
             taken,
             least,
             claimed,
+            requests: Requests::new(alloc),
         })
     }
 
@@ -98,12 +102,42 @@ impl Known {
         }
     }
 
+    /// Comes to a frame of this time, just before which times begin anew, or go on.
+    pub fn come_to(&mut self, basis: &Basis<'_>, anew: bool, time: Option<u64>)
+        ensures { (claims : HeardClaims) → KnowsClaims (settings_of basis.now) self.old claims
+            → KnowsClaims (settings_of basis.now) self.new (come_to anew time claims) }
+    {
+        self.requests.come_to(anew, time);
+    }
+
+    /// Takes a frame of this time that is seen of this request of the plan, or of none.
+    pub fn take_request(
+        &mut self,
+        basis: &Basis<'_>,
+        time: Option<u64>,
+        frame: &Frame,
+        seen: Option<usize>,
+    ) -> Result<(), AllocError>
+        ensures { OnOk result ((claims : HeardClaims) → KnowsClaims (settings_of basis.now) self.old claims
+            → KnowsClaims (settings_of basis.now) self.new (with_requests basis.now.plan.now time frame.now seen claims)) }
+    {
+        self.requests.take(basis.plan, time, frame, seen)
+    }
+
+    /// Whether a message of this number, from this source, was asked for: by any requests, or by none of the plan's.
+    pub fn was_asked_for(&self, basis: &Basis<'_>, besides: bool, number: u32, source: u8) -> bool
+        ensures { result ≡ was_asked_for (settings_of basis.now) (known_by self.now) besides number source }
+    {
+        self.requests.have_asked_for(basis, besides, number, source)
+    }
+
     // Forgets where a unit claimed last, if it may have moved.
     fn forget(&mut self, basis: &Basis<'_>, unit: usize)
         requires { unit < length self.old.last.items }
         ensures taken { self.new.taken ≡ self.old.taken }
         ensures least { self.new.least ≡ self.old.least }
         ensures claimed { self.new.claimed ≡ self.old.claimed }
+        ensures requests { self.new.requests ≡ self.old.requests }
         ensures size { length self.new.last.items ≡ length self.old.last.items }
         ensures others { (u : ℕ) → u ≢ unit → last_in self.new u ≡ last_in self.old u }
         ensures here { last_in self.new unit ≡ (if moves (settings_of basis.now) unit then None else last_in self.old unit) }
@@ -128,6 +162,7 @@ impl Known {
         ensures taken { self.new.taken ≡ self.old.taken }
         ensures least { self.new.least ≡ self.old.least }
         ensures claimed { self.new.claimed ≡ self.old.claimed }
+        ensures requests { self.new.requests ≡ self.old.requests }
         ensures size { length self.new.last.items ≡ length self.old.last.items }
         ensures none { basis.now.part ≡ true → (u : ℕ) → last_in self.new u ≡ last_in self.old u }
         ensures others { (u : ℕ) → u ≢ unit → last_in self.new u ≡ last_in self.old u }
@@ -143,6 +178,7 @@ impl Known {
         ensures last { self.new.last ≡ self.old.last }
         ensures least { self.new.least ≡ self.old.least }
         ensures claimed { self.new.claimed ≡ self.old.claimed }
+        ensures requests { self.new.requests ≡ self.old.requests }
         ensures size { length self.new.taken.items ≡ length self.old.taken.items }
         ensures others { (a : ℕ) → a ≢ source → taken_in self.new a ≡ taken_in self.old a }
         ensures null { 254 ≤ source → taken_in self.new source ≡ taken_in self.old source }
@@ -159,6 +195,7 @@ impl Known {
         ensures last { self.new.last ≡ self.old.last }
         ensures taken { self.new.taken ≡ self.old.taken }
         ensures claimed { self.new.claimed ≡ self.old.claimed }
+        ensures requests { self.new.requests ≡ self.old.requests }
         ensures size { length self.new.least.items ≡ length self.old.least.items }
         ensures others { (a : ℕ) → a ≢ source → least_in self.new a ≡ least_in self.old a }
         ensures here { length self.old.least.items ≡ 256 → least_in self.new source ≡ Some (smaller_name name (least_in self.old source)) }
@@ -174,6 +211,7 @@ impl Known {
         ensures last { self.new.last ≡ self.old.last }
         ensures taken { self.new.taken ≡ self.old.taken }
         ensures least { self.new.least ≡ self.old.least }
+        ensures requests { self.new.requests ≡ self.old.requests }
         ensures size { length self.new.claimed.items ≡ length self.old.claimed.items }
         ensures others { (i : ℕ) → i ≢ unit * 256 + source → slice_index_or self.new.claimed.items i false ≡ slice_index_or self.old.claimed.items i false }
         ensures here { unit < length basis.now.plan.now.units.items → unit * 256 + source < length self.old.claimed.items

@@ -25,6 +25,7 @@ mod only_place;
 mod pauses;
 mod places;
 mod reading;
+mod requests;
 mod senders;
 mod settings;
 mod silence;

@@ -1,7 +1,7 @@
 //! What is counted of a log.
 ghost use Rattle.std.specs.Prelude.{◌≡◌};
 
-/// What is said of a line or a frame. The first nine accuse, and the last eight.
+/// What is said of a line or a frame. The first nine accuse, and from `NearFlow` on the next eight.
 #[derive(Clone, Copy)]
 pub enum Word {
     /// A line of an 11-bit identifier.
@@ -50,6 +50,12 @@ pub enum Word {
     NearOrLate,
     /// One of which the next one comes too late, or one was sent later than by load.
     SilentOrLate,
+    /// A message of a group that no flow sends there, and that was asked for.
+    Answered,
+    /// A message that was asked for.
+    Answers,
+    /// A message that was asked for by none of the plan's requests.
+    Besides,
 }
 
 impl Word {
@@ -84,6 +90,9 @@ impl Word {
             Word::SilentPackets => 20,
             Word::NearOrLate => 21,
             Word::SilentOrLate => 22,
+            Word::Answered => 23,
+            Word::Answers => 24,
+            Word::Besides => 25,
         }
     }
 }

@@ -21,11 +21,12 @@ use j39_id::addresses::GLOBAL_ADDRESS;
 use j39_network::{FlowPlan, GroupPlan, RequestPlan, To};
 use j39_signal::is_selected;
 
-/// What a unit sent: the number of a group, whereto, whether in a single frame that names no destination, its priority
+/// What a unit sent: from where, the number of a group, whereto, whether in a single frame that names no destination, its priority
 /// where it is a single frame, how many bytes, and these where it is a single frame.
 #[derive(Clone, Copy)]
 pub(crate) struct UnitMessage<'a> {
     pub unit: usize,
+    pub source: u8,
     pub number: u32,
     pub destination: u8,
     pub unaddressed: bool,

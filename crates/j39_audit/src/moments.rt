@@ -3,7 +3,7 @@ ghost use Rattle.std.specs.Prelude.{◌≡◌, ◌<◌, ◌≤◌, ◌^◌, ◌+
 ghost use Rattle.std.specs.Option.{option_map};
 ghost use Rattle.j39_audit.specs.Counting.{Noted};
 ghost use Rattle.j39_audit.specs.Moments.{Moments as AMoments, all_pauses_ended, begun_anew, behind_bad, behind_gap, lower_bound, moments_behind, no_moments, with_moment};
-ghost use Rattle.j39_audit.specs.Moments.{listed_pauses_ended, moment_window, with_counted, with_ending, with_frame_of, with_message, with_packet_stream, with_stream, with_time};
+ghost use Rattle.j39_audit.specs.Moments.{listed_pauses_ended, moment_window, with_counted, with_ending, with_frame_of, with_message, with_message_of, with_packet_stream, with_stream, with_time};
 ghost use Rattle.j39_audit.specs.MessageStreams.{nothing_sighted, sighted_behind, sighted_stream};
 ghost use Rattle.j39_audit.specs.Pauses.{unclear_behind};
 ghost use Rattle.j39_audit.specs.inside.Recalling.{AreNear, RecallsMoments, far_ahead, settings_of};
@@ -166,12 +166,35 @@ impl Moments {
         Ok(())
     }
 
+    // Takes a message of a stream within these bounds, unless it may have been sent besides those of the stream.
+    fn take_message_of(
+        &mut self,
+        besides: bool,
+        stream: MessageStream,
+        window: Window,
+        line: u64,
+    ) -> Result<(), AllocError>
+        requires step { stream.step < 2 ^ 27 }
+        requires upper { window.upper < far_ahead }
+        requires lower { IfSome window.lower (λ x. x < far_ahead) }
+        requires near { AreNear self.old }
+        ensures near { OnOk result (AreNear self.new) }
+        ensures moments { OnOk result ((m : AMoments) → RecallsMoments self.old m
+            → RecallsMoments self.new (with_message_of besides stream window line m)) }
+    {
+        if besides {
+            return Ok(());
+        }
+        self.take_message(stream, window, line)
+    }
+
     // Takes a message of a stream, if there is one.
     fn take_stream(
         &mut self,
         basis: &Basis<'_>,
         time: u64,
         line: u64,
+        besides: bool,
         stream: Option<MessageStream>,
     ) -> Result<(), AllocError>
         requires step { IfSome stream (λ it. it.step < 2 ^ 27) }
@@ -181,12 +204,12 @@ impl Moments {
         requires near { AreNear self.old }
         ensures near { OnOk result (AreNear self.new) }
         ensures moments { OnOk result ((m : AMoments) → RecallsMoments self.old m
-            → RecallsMoments self.new (with_stream (settings_of basis.now) time line stream m)) }
+            → RecallsMoments self.new (with_stream (settings_of basis.now) time line besides stream m)) }
     {
         match stream {
             Some(one) => {
                 let window = moment_window(basis, one.slack, time, self.since);
-                self.take_message(one, window, line)?;
+                self.take_message_of(besides, one, window, line)?;
                 self.take_pause(one.mark.subject, one.pause, window, line)
             }
             None => Ok(()),
@@ -283,7 +306,7 @@ impl Moments {
         self.end_pauses(basis, timing, seen)?;
         self.end_deviating(basis, seen.sighting);
         let stream = sighted_stream(basis, timing, frame, seen.sighting);
-        self.take_stream(basis, time, line, stream)?;
+        self.take_stream(basis, time, line, seen.sighting.besides, stream)?;
         self.take_counted(basis, seen.sighting.unit, line);
         Ok(())
     }

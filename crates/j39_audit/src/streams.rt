@@ -3,7 +3,8 @@ ghost use Rattle.std.specs.Prelude.{◌≡◌, ◌+◌, ◌≤◌, ◌<◌, ◌*
 ghost use Rattle.std.specs.Option.{option_and_then, option_copied, option_map};
 ghost use Rattle.j39_id.specs.Ident.{pgn_of};
 ghost use Rattle.j39_audit.specs.Looking.{is_single as is_single_number};
-ghost use Rattle.j39_audit.specs.MessageStreams.{flow_stream, is_in_stream, queued_within_ms, longest_us, paced_request, paced_stream, asked_stream, shortest_us};
+ghost use Rattle.j39_audit.specs.MessageStreams.{flow_stream, is_in_stream, queued_within_ms, paced_request, paced_stream, asked_stream};
+ghost use Rattle.j39_audit.specs.UnitTimes.{longest_us, shortest_us};
 ghost use Rattle.j39_audit.specs.MessageStreams.{flow_pause, flow_pause_of, is_claiming_there, stream_pause, shows_silence, sighted_stream, slack_by};
 ghost use Rattle.j39_audit.specs.inside.Recalling.{settings_of};
 

@@ -1,6 +1,6 @@
 //! What is written of a log that was read.
 ghost use Rattle.std.specs.Prelude.{◌≡◌, ◌≤◌, ◌<◌, ◌++◌, IfOk, OnOk};
-ghost use Rattle.j39_audit.specs.AuditText.{accusation_count, accusations, accusing_at, again_text, deviations_line, flow_seen};
+ghost use Rattle.j39_audit.specs.AuditText.{accusation_count, accusations, accusing_at, again_text, answers_text, deviations_line, flow_seen};
 ghost use Rattle.j39_audit.specs.AuditText.{flow_seen_line, flows_seen, groups_named, if_not_by_bus, line_reported, lines_reported, reported_mark};
 ghost use Rattle.j39_audit.specs.AuditText.{request_seen, request_seen_line, requests_seen, sorts_text, stamps_text, subject_count};
 ghost use Rattle.j39_audit.specs.AuditText.{subject_lines, subjects, text_by, times_of, unit_frames_line, unit_seen};
@@ -265,6 +265,17 @@ fn write_request_seen(
     }
 }
 
+// Writes how many messages answer, where some do.
+#[tactic(auto, unfolding(crate::specs::AuditText::answers_text))]
+fn write_answers(text: &mut TextBuffer, answers: u64) -> WriteResult
+    ensures { OnOk result (text.new ≡ text.old ++ answers_text answers) }
+{
+    if answers == 0 {
+        return Ok(());
+    }
+    text.field(" answers ", answers)
+}
+
 #[tactic(auto, unfolding(crate::specs::AuditText::unit_frames_line))]
 fn write_unit_seen(
     text: &mut TextBuffer,
@@ -277,6 +288,7 @@ fn write_unit_seen(
     text.word("unit ")?;
     text.word(unit_label(plan, unit))?;
     text.field(" frames ", times_of(log, Word::Counted, unit))?;
+    write_answers(text, times_of(log, Word::Answers, unit))?;
     text.end_line()
 }
 

@@ -28,14 +28,15 @@ const NEVER: Occurrences = Occurrences {
     worst_at: 0,
 };
 
-/// Of which flow and of which request a frame is seen, for which unit it counts, and from which of its groups a message
-/// deviates, by their places from 0.
+/// Of which flow and of which request a frame is seen, for which unit it counts, from which of its groups a message
+/// deviates, by their places from 0, and whether it was asked for by none of the plan's requests.
 #[derive(Clone, Copy)]
 pub struct Sighting {
     pub flow: Option<usize>,
     pub request: Option<usize>,
     pub unit: Option<usize>,
     pub deviating: Option<usize>,
+    pub besides: bool,
 }
 
 const NOTHING: Sighting = Sighting {
@@ -43,6 +44,7 @@ const NOTHING: Sighting = Sighting {
     request: None,
     unit: None,
     deviating: None,
+    besides: false,
 };
 
 // With a mark more.
@@ -62,8 +64,12 @@ fn sighted(old: Sighting, mark: Mark) -> Sighting
             unit: Some(mark.subject),
             ..old
         },
-        Word::Layout | Word::NoFlow | Word::Priority => Sighting {
+        Word::Layout | Word::NoFlow | Word::Priority | Word::Answered => Sighting {
             deviating: Some(mark.group),
+            ..old
+        },
+        Word::Besides => Sighting {
+            besides: true,
             ..old
         },
         _ => old,

@@ -8,7 +8,7 @@ use Rattle.j39_timing.specs.Errors.{Damaged, IsBusWithErrors}
 use Rattle.j39_timing.specs.Messages.{frame_end}
 use Rattle.j39_timing.specs.TimedFrames.{Schedule}
 use Rattle.j39_audit.specs.Asking.{is_overdue, longest_answer_ms}
-use Rattle.j39_audit.specs.MessageStreams.{longest_us}
+use Rattle.j39_audit.specs.UnitTimes.{longest_us}
 use Rattle.j39_audit.specs.declared.asking.ClaimRequest.{ClaimRequest}
 use Rattle.j39_audit_laws.specs.Answering.{AnswersInTime, AnswersRequests, AreLinesOfUnit, EndsBetween, IsAnswerWithin, IsDeafAt, IsStillAsked, UnitLines, is_late, is_reported_deaf, request_at, request_before, request_kept, request_next}
 use Rattle.j39_audit_laws.specs.LogBounds.{IsMarkedBound, IsTimedBound, Lines}

@@ -12,10 +12,10 @@ use Rattle.j39_id.specs.Name.{is_arbitrary}
 use Rattle.j39_id.specs.declared.frame.Frame.{Frame}
 use Rattle.j39_network.specs.declared.plan.unit_plan.UnitPlan.{UnitPlan}
 use Rattle.j39_tp.specs.declared.packet.Packet.{Packet}
-use Rattle.j39_audit.specs.AuditText.{AuditPast, claims_before, past_with_frame}
+use Rattle.j39_audit.specs.AuditText.{AuditPast, claims_before, past_with_frame, noted_newly}
 use Rattle.j39_audit.specs.Below.{any_below}
 use Rattle.j39_audit.specs.Breaks.{breaks, line_time}
-use Rattle.j39_audit.specs.Claiming.{Heard, HeardClaims, Knowledge, broken_off, first_there, has_strangers, is_address_of, is_another_there, is_at, is_claimed_last, is_free_for, is_strange, is_strangers, knowledge, may_be, may_stand, newest_of, sender_at, sure_sender, with_claim}
+use Rattle.j39_audit.specs.Claiming.{Heard, HeardClaims, Knowledge, broken_off, first_there, has_strangers, is_address_of, is_another_there, is_at, is_claimed_last, is_free_for, is_strange, is_strangers, knowledge, may_be, may_stand, newest_of, sender_at, sure_sender, with_claim, with_requests}
 use Rattle.j39_id.specs.Addresses.{in_pool}
 use Rattle.j39_audit.specs.Looking.{claimant, claims_behind, is_claim}
 use Rattle.j39_audit.specs.Settings.{AreMoving, Settings, moves, units_planned}
@@ -24,6 +24,7 @@ use Rattle.j39_audit_laws.specs.FoundForSure.{ClaimsArePlanned, HasFixedUnits, I
 use Rattle.j39_audit_laws.specs.FoundLines.{IsFrameAt}
 use Rattle.j39_audit_laws.proofs.Planned.{at_place, first_passes, place_at, some_below}
 use Rattle.j39_audit_laws.proofs.Walk.{IsNext, at_line}
+use Rattle.j39_audit.specs.MessageStreams.{nothing_sighted, sighted_behind}
 
 none_pass : (test : ℕ → Bool) → ((k : ℕ) → test k ≡ false) → (n : ℕ) → any_below test n ≡ false
 unfolding any_below
@@ -82,7 +83,8 @@ module _ (s : Settings) (log : List Line) (moving : AreMoving s.plan s.moving) (
       ] here
 
   claims_next : (past : AuditPast) (time : Option ℕ) (named : Option (List ℕ)) (f : Frame) (packet : Option Packet)
-      → (past_with_frame s past time named f packet).claims ≡ claims_behind s f (claims_before s past time)
+      → (past_with_frame s past time named f packet).claims
+      ≡ with_requests s.plan time f (sighted_behind nothing_sighted (noted_newly s past time f packet)).request (claims_behind s f (claims_before s past time))
   unfolding past_with_frame
   claims_next past time named f packet = refl
 

@@ -9,18 +9,18 @@ use Rattle.j39_follow.specs.Who.{unit_of_name}
 use Rattle.j39_tp.specs.declared.packet.Packet.{Packet}
 use Rattle.j39_audit.specs.Claiming.{HeardClaims, Knowledge, has_strangers, is_address_of, knowledge, sender_at}
 use Rattle.j39_audit.specs.Counting.{Noted}
-use Rattle.j39_audit.specs.Looking.{claim_noted, claim_place, counted, frame_noted, has_to_say_cannot, is_above_unplanned, is_claim, is_claiming, is_urgent, may_claim, may_move_to}
+use Rattle.j39_audit.specs.Looking.{claim_noted, claim_place, counted, frame_noted, has_to_say_cannot, is_above_unplanned, is_claim, is_claiming, is_urgent, may_claim, may_move_to, told, asked_noted}
 use Rattle.j39_audit.specs.Looking.{mark_noted, message_noted, message_sent, noted_if, noted_with, request_noted, sent_noted}
 use Rattle.j39_audit.specs.SentMessages.{SentMessage, deviation, flows_noted, noted_at}
 use Rattle.j39_audit.specs.Settings.{Settings}
 use Rattle.j39_audit.specs.declared.mark.Mark.{Mark}
 use Rattle.j39_audit.specs.declared.mark.Word.{Word}
-use Rattle.j39_audit.specs.declared.mark.Word.TheVariants.{Short, Stranger, Nobody as NobodyThere, Address, Cannot, Layout, NoFlow, Priority, Urgent, Seen, Unclear, Asked, Counted, Unsure, Break, NearFlow, NearRequest, SilentFlow, Deaf, NearPackets, SilentPackets, NearOrLate, SilentOrLate}
+use Rattle.j39_audit.specs.declared.mark.Word.TheVariants.{Short, Stranger, Nobody as NobodyThere, Address, Cannot, Layout, NoFlow, Priority, Urgent, Seen, Unclear, Asked, Counted, Unsure, Break, NearFlow, NearRequest, SilentFlow, Deaf, NearPackets, SilentPackets, NearOrLate, SilentOrLate, Answered, Answers, Besides}
 use Rattle.j39_audit.specs.declared.senders.SureSender.{SureSender}
 use Rattle.j39_audit.specs.declared.senders.SureSender.TheVariants.{Unit as OfUnit, Nobody, Unknown}
 use Rattle.j39_audit_laws.specs.FoundLines.{Differs, IsAccusing, IsClaimOf, IsAccusedAs, IsSentFrom}
 use Rattle.j39_audit_laws.proofs.Hits.{AtMostOne, HaveWords, In, hits, if_in, in_cases, in_if, in_left, in_right, no_hits, one_before, one_behind, one_if, one_of_one, words_both, words_if}
-use Rattle.j39_audit_laws.proofs.Marking.{IsDeviation, differs_so, flows_seen, is_another, is_of_message, is_seen, is_urgent_word, more_words, of_message_another, request_seen, seen_word, sender_of, unseen}
+use Rattle.j39_audit_laws.proofs.Marking.{IsDeviation, differs_so, flows_seen, is_another, is_of_message, is_seen, is_urgent_word, more_words, of_message_another, request_seen, seen_word, sender_of, unseen, told_so, all_seen_of}
 
 if_cases : (n : Noted) (b : Bool) (xs ys : List Noted) → In n (cond b xs ys) → ((b ≡ true) × In n xs) ⊎ ((b ≡ false) × In n ys)
 if_cases n true xs ys is = inl (refl, is)
@@ -65,6 +65,9 @@ module _ (s : Settings) (claims : HeardClaims) (f : Frame) (packet : Option Pack
   differs_marked SilentPackets u g is differs = absurd (true≢false (sym is))
   differs_marked NearOrLate u g is differs = absurd (true≢false (sym is))
   differs_marked SilentOrLate u g is differs = absurd (true≢false (sym is))
+  differs_marked Answered u g is differs = absurd (true≢false (sym is))
+  differs_marked Answers u g is differs = absurd (true≢false (sym is))
+  differs_marked Besides u g is differs = absurd (true≢false (sym is))
 
   -- ---- a note has a meaning
 
@@ -107,7 +110,7 @@ module _ (s : Settings) (claims : HeardClaims) (f : Frame) (packet : Option Pack
       ]
 
   differing : (u : ℕ) → IsSentFrom s claims f (OfUnit u) → (m : SentMessage) → message_sent u f packet ≡ Some m → (o : Option Mark)
-      → deviation s k m ≡ o → IsDeviation m o → (n : Noted) → In n (mark_noted line o) → Means n
+      → told s k m ≡ o → IsDeviation m o → (n : Noted) → In n (mark_noted line o) → Means n
   differing u sent m is None e so n inside = absurd inside
   differing u sent m is (Some d) e so n (inr never) = absurd never
   differing u sent m is (Some d) e so n (inl same) =
@@ -126,9 +129,9 @@ module _ (s : Settings) (claims : HeardClaims) (f : Frame) (packet : Option Pack
       → In n (message_noted s k line o) → Means n
   messaged u sent None is n inside = absurd inside
   messaged u sent (Some m) is n inside =
-      elim (in_cases n (mark_noted line (deviation s k m)) (flows_noted s k m line) inside) [
-        | inl there ↦ differing u sent m is (deviation s k m) refl (differs_so s k m) n there
-        | inr there ↦ λ accuses. absurd (seen_word (flows_noted s k m line) (flows_seen s k m line) n there accuses)
+      elim (in_cases n (mark_noted line (told s k m)) (flows_noted s k m line ++ asked_noted s k m line) inside) [
+        | inl there ↦ differing u sent m is (told s k m) refl (told_so s k m) n there
+        | inr there ↦ λ accuses. absurd (seen_word (flows_noted s k m line ++ asked_noted s k m line) (all_seen_of s k m line) n there accuses)
       ]
 
   -- what is noted of a frame that the unit counts for, in its parts
@@ -185,10 +188,10 @@ module _ (s : Settings) (claims : HeardClaims) (f : Frame) (packet : Option Pack
   differs_noted : (w : Word) (u g : ℕ) → Differs s claims f packet (record { word = w; subject = u; group = g }) → IsNotedAs w u g
   differs_noted w u g d =
       let n : Noted = record { mark = record { word = w; subject = u; group = g }; line = line; detail = 0 } in
-      let marks : In n (mark_noted line (deviation s k d.message)) = subst (λ (o : Option Mark). In n (mark_noted line o)) (sym d.differs) (inl refl) in
+      let marks : In n (mark_noted line (told s k d.message)) = subst (λ (o : Option Mark). In n (mark_noted line o)) (sym d.differs) (inl refl) in
       let message : In n (message_noted s k line (message_sent u f packet)) =
       subst (λ (o : Option SentMessage). In n (message_noted s k line o)) (sym d.message_is)
-      (in_left n (mark_noted line (deviation s k d.message)) (flows_noted s k d.message line) marks) in
+      (in_left n (mark_noted line (told s k d.message)) (flows_noted s k d.message line ++ asked_noted s k d.message line) marks) in
       let all : In n (counted s k f packet line u) =
       subst (In n) (sym (counts_as u)) (in_left n (of_unit u ++ request_noted s k u f line) (noted_if (is_urgent s u f) (noted_at line Urgent u 0))
       (in_left n (of_unit u) (request_noted s k u f line) (inr message))) in
@@ -259,6 +262,9 @@ module _ (s : Settings) (claims : HeardClaims) (f : Frame) (packet : Option Pack
   marked_noted SilentPackets u g never = absurd never
   marked_noted NearOrLate u g never = absurd never
   marked_noted SilentOrLate u g never = absurd never
+  marked_noted Answered u g never = absurd never
+  marked_noted Answers u g never = absurd never
+  marked_noted Besides u g never = absurd never
 
   -- ---- once at most
 
@@ -295,12 +301,11 @@ module _ (s : Settings) (claims : HeardClaims) (f : Frame) (packet : Option Pack
     message_once : (o : Option SentMessage) → AtMostOne (hits m (message_noted s k line o)) × HaveWords is_another (message_noted s k line o)
     message_once None = (inl refl, tt)
     message_once (Some message) =
-        let marks = mark_once message (deviation s k message) (differs_so s k message) in
-        let flows = flows_seen s k message line in (
-          one_before m (mark_noted line (deviation s k message)) (flows_noted s k message line)
-              (no_hits m is_seen (unseen m.word accuses) (flows_noted s k message line) flows) marks.0,
-          words_both is_another (mark_noted line (deviation s k message)) (flows_noted s k message line) marks.1
-              (more_words (flows_noted s k message line) flows),
+        let marks = mark_once message (told s k message) (told_so s k message) in
+        let others : List Noted = flows_noted s k message line ++ asked_noted s k message line in
+        let seen = all_seen_of s k message line in (
+          one_before m (mark_noted line (told s k message)) others (no_hits m is_seen (unseen m.word accuses) others seen) marks.0,
+          words_both is_another (mark_noted line (told s k message)) others marks.1 (more_words others seen),
         )
 
     counted_once : (u : ℕ) → AtMostOne (hits m (counted s k f packet line u))

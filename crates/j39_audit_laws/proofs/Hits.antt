@@ -11,7 +11,7 @@ use Rattle.j39_audit.specs.Counting.{Key, Noted, is_same_key, key_of, word_numbe
 use Rattle.j39_audit.specs.Looking.{noted_if}
 use Rattle.j39_audit.specs.declared.mark.Mark.{Mark}
 use Rattle.j39_audit.specs.declared.mark.Word.{Word}
-use Rattle.j39_audit.specs.declared.mark.Word.TheVariants.{Short, Stranger, Nobody, Address, Cannot, Layout, NoFlow, Priority, Urgent, Seen, Unclear, Asked, Counted, Unsure, Break, NearFlow, NearRequest, SilentFlow, Deaf, NearPackets, SilentPackets, NearOrLate, SilentOrLate}
+use Rattle.j39_audit.specs.declared.mark.Word.TheVariants.{Short, Stranger, Nobody, Address, Cannot, Layout, NoFlow, Priority, Urgent, Seen, Unclear, Asked, Counted, Unsure, Break, NearFlow, NearRequest, SilentFlow, Deaf, NearPackets, SilentPackets, NearOrLate, SilentOrLate, Answered, Answers, Besides}
 use Rattle.j39_audit.proofs.Counted.{same_keys}
 
 -- ---- notes in a list
@@ -46,7 +46,8 @@ if_in m test is = subst (λ (t : Bool). In m (noted_if t m)) (sym is) (inl refl)
 -- ---- words
 
 abbrev words : List Word
-words = Short ∷ Stranger ∷ Nobody ∷ Address ∷ Cannot ∷ Layout ∷ NoFlow ∷ Priority ∷ Urgent ∷ Seen ∷ Unclear ∷ Asked ∷ Counted ∷ Unsure ∷ Break ∷ NearFlow ∷ NearRequest ∷ SilentFlow ∷ Deaf ∷ NearPackets ∷ SilentPackets ∷ NearOrLate ∷ SilentOrLate ∷ []
+words = Short ∷ Stranger ∷ Nobody ∷ Address ∷ Cannot ∷ Layout ∷ NoFlow ∷ Priority ∷ Urgent ∷ Seen ∷ Unclear ∷ Asked ∷ Counted ∷ Unsure ∷ Break ∷ NearFlow ∷ NearRequest ∷ SilentFlow ∷ Deaf ∷ NearPackets ∷ SilentPackets ∷ NearOrLate ∷ SilentOrLate ∷ Answered
+    ∷ Answers ∷ Besides ∷ []
 
 abbrev word_of : ℕ → Word
 word_of n = slice_index_or words n Break
@@ -75,6 +76,9 @@ of_number NearPackets = refl
 of_number SilentPackets = refl
 of_number NearOrLate = refl
 of_number SilentOrLate = refl
+of_number Answered = refl
+of_number Answers = refl
+of_number Besides = refl
 
 pub same_mark : (a b : Mark) → key_of a ≡ key_of b → a ≡ b
 same_mark a b e =

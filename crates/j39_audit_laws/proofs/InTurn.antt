@@ -10,7 +10,7 @@ use Rattle.j39_timing.specs.TimedFrames.{Schedule}
 use Rattle.j39_audit.specs.Below.{each_below}
 use Rattle.j39_audit.specs.BegunBroadcasts.{BegunBroadcasts, late_by, late_noted}
 use Rattle.j39_audit.specs.Counting.{Noted}
-use Rattle.j39_audit.specs.MessageStreams.{longest_us}
+use Rattle.j39_audit.specs.UnitTimes.{longest_us}
 use Rattle.j39_audit.specs.Near.{excess}
 use Rattle.j39_audit.specs.declared.broadcasts.BegunBroadcast.{BegunBroadcast}
 use Rattle.j39_audit.proofs.Below.{each_more, each_none}

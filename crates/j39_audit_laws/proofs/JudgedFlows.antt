@@ -19,7 +19,8 @@ use Rattle.j39_network.specs.declared.plan.to.To.{To}
 use Rattle.j39_network.specs.declared.plan.to.To.TheVariants.{All as ToAll, One as ToOne}
 use Rattle.j39_network.specs.declared.plan.unit_plan.UnitPlan.{UnitPlan}
 use Rattle.j39_audit.specs.Looking.{is_claiming}
-use Rattle.j39_audit.specs.MessageStreams.{flow_pause, flow_pause_of, is_claiming_there, longest_us, shows_silence, slack_by}
+use Rattle.j39_audit.specs.MessageStreams.{flow_pause, flow_pause_of, is_claiming_there, shows_silence, slack_by}
+use Rattle.j39_audit.specs.UnitTimes.{longest_us}
 use Rattle.j39_audit.specs.Responses.{AreResponsesBy, response}
 use Rattle.j39_audit.specs.Settings.{Settings, response_of}
 use Rattle.j39_audit.specs.declared.streams.FlowPause.{FlowPause}

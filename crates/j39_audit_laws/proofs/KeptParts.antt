@@ -394,7 +394,7 @@ keepers s log timing bus wire place planned sent held u moving own timed shows i
       cannot = can_claim s log sent_by u moving its
           (who_always_can s log sent_by u (λ number claims f packet at by claim. ((fine number claims f packet at by).claims claim).0));
       layout = layouts_are_planned s log sent_by u moving its looks;
-      no_flow = flows_are_planned s log sent_by u moving its looks;
+      no_flow = flows_are_planned s log sent_by u moving its (λ n claims f packet at its_own m is number. inl (looks n claims f packet at its_own m is number));
       priority = priorities_are_planned s log sent_by u moving its looks;
       urgent = waits_for_planned s log sent_by u moving its (λ number claims f packet at by t there above.
           (let same : timing ≡ with_claims s.plan t = counted t there in

@@ -20,12 +20,13 @@ use Rattle.j39_audit.specs.SentMessages.{SentMessage, deviates, deviation, first
 use Rattle.j39_audit.specs.Settings.{Settings, units_planned}
 use Rattle.j39_audit.specs.declared.mark.Mark.{Mark}
 use Rattle.j39_audit.specs.declared.mark.Word.{Word}
-use Rattle.j39_audit.specs.declared.mark.Word.TheVariants.{Short, Stranger, Nobody as NobodyThere, Address, Cannot, Layout, NoFlow, Priority, Urgent, Seen, Unclear, Asked, Counted, Unsure, Break, NearFlow, NearRequest, SilentFlow, Deaf, NearPackets, SilentPackets, NearOrLate, SilentOrLate}
+use Rattle.j39_audit.specs.declared.mark.Word.TheVariants.{Short, Stranger, Nobody as NobodyThere, Address, Cannot, Layout, NoFlow, Priority, Urgent, Seen, Unclear, Asked, Counted, Unsure, Break, NearFlow, NearRequest, SilentFlow, Deaf, NearPackets, SilentPackets, NearOrLate, SilentOrLate, Answered, Answers, Besides}
 use Rattle.j39_audit.specs.declared.messages.Test.{Test}
 use Rattle.j39_audit.specs.declared.messages.Test.TheVariants.{Fitting, Selected, Any}
 use Rattle.j39_audit.specs.declared.senders.SureSender.TheVariants.{Unit as OfUnit, Nobody, Unknown}
 use Rattle.j39_audit_laws.specs.FoundLines.{Differs, FoundAreListed, IsAccusedAs, IsListed}
 use Rattle.j39_audit_laws.proofs.Planned.{position_passes}
+use Rattle.j39_audit_laws.proofs.Marking.{told_is}
 
 -- ---- places
 
@@ -118,7 +119,7 @@ module _ (s : Settings) (claims : HeardClaims) (f : Frame) (packet : Option Pack
   differs_inside : (w : Word) (u g : ℕ) → Differs s claims f packet (record { word = w; subject = u; group = g })
       → (u < units_planned s) × (g < length s.plan.groups.items)
   differs_inside w u g d =
-      (sender_inside s (knowledge s claims) f.ident.sa u d.sent.sender_is, deviation_inside s (knowledge s claims) d.message _ d.differs)
+      (sender_inside s (knowledge s claims) f.ident.sa u d.sent.sender_is, deviation_inside s (knowledge s claims) d.message _ (told_is s (knowledge s claims) d.message _ d.differs))
 
   first_of_one : (g : ℕ) → g ≡ 0 → g < 1
   first_of_one g e = omega (arith, e)
@@ -152,6 +153,9 @@ module _ (s : Settings) (claims : HeardClaims) (f : Frame) (packet : Option Pack
   accused_listed SilentPackets u g never = absurd never
   accused_listed NearOrLate u g never = absurd never
   accused_listed SilentOrLate u g never = absurd never
+  accused_listed Answered u g never = absurd never
+  accused_listed Answers u g never = absurd never
+  accused_listed Besides u g never = absurd never
 
 pub found_listed : FoundAreListed
 found_listed s log n m (inl (at, is)) = subst (IsListed s) (sym is) (omega arith, omega arith)

@@ -8,9 +8,9 @@ use Rattle.std.proofs.lemmas.Bool.{and_parts, cond_both, true≢false}
 use Rattle.std.proofs.lemmas.Option.{none-some, same_Some}
 use Rattle.j39_id.specs.declared.frame.Frame.{Frame}
 use Rattle.j39_tp.specs.declared.packet.Packet.{Packet}
-use Rattle.j39_audit.specs.Claiming.{Knowledge}
+use Rattle.j39_audit.specs.Claiming.{Knowledge, was_asked_for}
 use Rattle.j39_audit.specs.Counting.{Noted}
-use Rattle.j39_audit.specs.Looking.{message_sent, request_noted, requested}
+use Rattle.j39_audit.specs.Looking.{message_sent, request_noted, requested, told, answers_request, answer_noted, answer_of, asked_noted, besides_noted}
 use Rattle.j39_audit.specs.Looking.{announced_by, announced_message, is_single, single}
 use Rattle.j39_audit.specs.SentMessages.{SentMessage, all_marked, deviation, flow_group, flows_noted, is_nearest_flow, is_nearest_request, is_of, marked, noted_at, requests_noted, with_fit_flow, without_flow, is_fit, first_group}
 use Rattle.j39_audit.specs.declared.messages.Test.TheVariants.{Fitting, Selected, Any}
@@ -20,13 +20,13 @@ use Rattle.j39_tp.specs.declared.packet.Packet.TheVariants.{Rts, Cts, EndAck, Ba
 use Rattle.j39_audit.specs.Settings.{Settings}
 use Rattle.j39_audit.specs.declared.mark.Mark.{Mark}
 use Rattle.j39_audit.specs.declared.mark.Word.{Word}
-use Rattle.j39_audit.specs.declared.mark.Word.TheVariants.{Short, Stranger, Nobody as NobodyThere, Address, Cannot, Layout, NoFlow, Priority, Urgent, Seen, Unclear, Asked, Counted, Unsure, Break, NearFlow, NearRequest, SilentFlow, Deaf, NearPackets, SilentPackets, NearOrLate, SilentOrLate}
+use Rattle.j39_audit.specs.declared.mark.Word.TheVariants.{Short, Stranger, Nobody as NobodyThere, Address, Cannot, Layout, NoFlow, Priority, Urgent, Seen, Unclear, Asked, Counted, Unsure, Break, NearFlow, NearRequest, SilentFlow, Deaf, NearPackets, SilentPackets, NearOrLate, SilentOrLate, Answered, Answers, Besides}
 use Rattle.j39_audit_laws.specs.FoundLines.{IsAccusing}
 use Rattle.j39_audit_laws.proofs.Hits.{HaveWords, In, words_below}
 
 -- ---- words
 
--- the words of flows and requests, and of what is only counted
+-- the words of flows and requests, of what was asked for, and of what is only counted
 abbrev pub is_seen : Word → Bool
 is_seen Seen = true
 is_seen Unclear = true
@@ -34,6 +34,9 @@ is_seen Asked = true
 is_seen Counted = true
 is_seen Unsure = true
 is_seen Break = true
+is_seen Answered = true
+is_seen Answers = true
+is_seen Besides = true
 is_seen _ = false
 
 abbrev pub is_urgent_word : Word → Bool
@@ -68,10 +71,14 @@ unseen NearPackets is = absurd is
 unseen SilentPackets is = absurd is
 unseen NearOrLate is = absurd is
 unseen SilentOrLate is = absurd is
+unseen Answered is = absurd is
+unseen Answers is = absurd is
+unseen Besides is = absurd is
 
 abbrev every_word : List Word
 every_word = Short ∷ Stranger ∷ NobodyThere ∷ Address ∷ Cannot ∷ Layout ∷ NoFlow ∷ Priority ∷ Urgent ∷ Seen ∷ Unclear ∷ Asked
-    ∷ Counted ∷ Unsure ∷ Break ∷ NearFlow ∷ NearRequest ∷ SilentFlow ∷ Deaf ∷ NearPackets ∷ SilentPackets ∷ NearOrLate ∷ SilentOrLate ∷ []
+    ∷ Counted ∷ Unsure ∷ Break ∷ NearFlow ∷ NearRequest ∷ SilentFlow ∷ Deaf ∷ NearPackets ∷ SilentPackets ∷ NearOrLate ∷ SilentOrLate ∷ Answered ∷ Answers
+    ∷ Besides ∷ []
 
 among_them : (w : Word) → (n : ℕ) × (slice_get every_word n ≡ Some w)
 among_them Short = (0, refl)
@@ -97,6 +104,9 @@ among_them NearPackets = (19, refl)
 among_them SilentPackets = (20, refl)
 among_them NearOrLate = (21, refl)
 among_them SilentOrLate = (22, refl)
+among_them Answered = (23, refl)
+among_them Answers = (24, refl)
+among_them Besides = (25, refl)
 
 all_at : {X : Type 0} (p : X → Bool) (xs : List X) (n : ℕ) (x : X) → list_all p xs ≡ true → slice_get xs n ≡ Some x → p x ≡ true
 all_at p [] n x all at = absurd (none-some x at)
@@ -144,6 +154,15 @@ pub differs_so : (s : Settings) (k : Knowledge) (m : SentMessage) → IsDeviatio
 unfolding deviation
 differs_so s k m = differs_with s k m (position (is_fit s k m) s.plan.flows.items)
 
+-- so is one that is told
+pub told_so : (s : Settings) (k : Knowledge) (m : SentMessage) → IsDeviation m (told s k m)
+told_so s k m = cond_both (answers_request s k m) None (deviation s k m) (IsDeviation m) (λ _. tt) (λ _. differs_so s k m)
+
+-- what is told is how it differs
+pub told_is : (s : Settings) (k : Knowledge) (m : SentMessage) (d : Mark) → told s k m ≡ Some d → deviation s k m ≡ Some d
+told_is s k m d =
+    cond_both (answers_request s k m) None (deviation s k m) (λ o. o ≡ Some d → deviation s k m ≡ Some d) (λ _ never. absurd (none-some d never)) (λ _ is. is)
+
 pub of_message_another : (w : Word) → is_of_message w ≡ true → is_another w ≡ true
 of_message_another = by_words is_of_message is_another refl
 
@@ -180,6 +199,20 @@ unfolding flows_noted
 flows_seen s k m line =
     all_seen line (if count_by (is_nearest_flow s k m) s.plan.flows.items == 1 then Seen else Unclear) (is_nearest_flow s k m) s.plan.flows.items
     (cond_both (count_by (is_nearest_flow s k m) s.plan.flows.items == 1) Seen Unclear (λ w. is_seen w ≡ true) (λ _. refl) (λ _. refl))
+
+-- and of what was asked for
+asked_seen : (s : Settings) (k : Knowledge) (m : SentMessage) (line : ℕ) → HaveWords is_seen (asked_noted s k m line)
+asked_seen s k m line =
+    words_both is_seen (answer_noted line (answers_request s k m) (deviation s k m)) (besides_noted s k m line)
+    (cond_both (answers_request s k m) (answer_of line (deviation s k m)) [] (HaveWords is_seen) (λ _. of_mark (deviation s k m)) (λ _. tt))
+    (words_if is_seen (noted_at line Besides 0 0) (was_asked_for s k true m.number m.source) refl)
+  where
+    of_mark : (o : Option Mark) → HaveWords is_seen (answer_of line o)
+    of_mark None = tt
+    of_mark (Some d) = (refl, refl, tt)
+
+pub all_seen_of : (s : Settings) (k : Knowledge) (m : SentMessage) (line : ℕ) → HaveWords is_seen (flows_noted s k m line ++ asked_noted s k m line)
+all_seen_of s k m line = words_both is_seen (flows_noted s k m line) (asked_noted s k m line) (flows_seen s k m line) (asked_seen s k m line)
 
 requests_seen : (s : Settings) (k : Knowledge) (m : SentMessage) (line : ℕ) → HaveWords is_seen (requests_noted s k m line)
 unfolding requests_noted

@@ -203,7 +203,7 @@ module _ (b : Settings) (t : Timing) (timed : b.plan.timing ≡ Some t) (n : ℕ
     pub before : new.before ≡ m.before
 
   its_message : (f : Frame) (time line : ℕ) (m : Moments) (x : MessageStream) → flow_stream b t f n ≡ Some x
-      → IsMessageThere f time m (with_stream b time line (Some x) m)
+      → IsMessageThere f time m (with_stream b time line false (Some x) m)
   its_message f time line m x at =
       let window : Window = moment_window b x.slack time m.since in
       let inner : Moments = with_message x window line m in
@@ -229,32 +229,41 @@ module _ (b : Settings) (t : Timing) (timed : b.plan.timing ≡ Some t) (n : ℕ
           and_from (nat_eq key.0 key.0 && nat_eq key.1 key.1) (nat_eq key.2 key.2)
           (and_from (nat_eq key.0 key.0) (nat_eq key.1 key.1) (eq-eqb key.0 key.0 refl) (eq-eqb key.1 key.1 refl)) (eq-eqb key.2 key.2 refl)
 
-  other_stream : (time line : ℕ) (m : Moments) (x : MessageStream) → x.mark ≢ mark → IsAsNear m (with_stream b time line (Some x) m)
-  other_stream time line m x other =
+  -- what was asked for by none of the plan's requests leaves it
+  besides_stream : (time line : ℕ) (m : Moments) (x : MessageStream) → IsAsNear m (with_stream b time line true (Some x) m)
+  besides_stream time line m x = pause_near x.pause x.mark.subject (moment_window b x.slack time m.since) line m
+
+  other_stream : (time line : ℕ) (besides : Bool) (m : Moments) (x : MessageStream) → x.mark ≢ mark → IsAsNear m (with_stream b time line besides (Some x) m)
+  other_stream time line true m x other = besides_stream time line m x
+  other_stream time line false m x other =
       let window : Window = moment_window b x.slack time m.since in
-      near_more m (with_message x window line m) (with_stream b time line (Some x) m) (other_message x window line m other)
+      near_more m (with_message x window line m) (with_stream b time line false (Some x) m) (other_message x window line m other)
       (pause_near x.pause x.mark.subject window line (with_message x window line m))
 
-  streams : (f : Frame) (time line : ℕ) (m : Moments) (flow request : Option ℕ)
-      → IsAsNear m (with_stream b time line (sighted_stream b t f flow request) m)
-      ⊎ ((flow ≡ Some n) × IsMessageThere f time m (with_stream b time line (sighted_stream b t f flow request) m))
-  streams f time line m None None = inl (near_itself m)
-  streams f time line m None (Some r) =
-      elim (asked_stream b t f r) as (λ o. asked_stream b t f r ≡ o → IsAsNear m (with_stream b time line o m)
-      ⊎ ((None ≡ Some n) × IsMessageThere f time m (with_stream b time line o m))) [
+  streams : (f : Frame) (time line : ℕ) (besides : Bool) (m : Moments) (flow request : Option ℕ)
+      → IsAsNear m (with_stream b time line besides (sighted_stream b t f flow request) m)
+      ⊎ ((flow ≡ Some n) × IsMessageThere f time m (with_stream b time line besides (sighted_stream b t f flow request) m))
+  streams f time line besides m None None = inl (near_itself m)
+  streams f time line besides m None (Some r) =
+      elim (asked_stream b t f r) as (λ o. asked_stream b t f r ≡ o → IsAsNear m (with_stream b time line besides o m)
+      ⊎ ((None ≡ Some n) × IsMessageThere f time m (with_stream b time line besides o m))) [
         | None ↦ λ _. inl (near_itself m)
-        | Some x ↦ λ at. inl (other_stream time line m x (λ e. asked_other r (sym (of_request f r x at) ∙ e)))
+        | Some x ↦ λ at. inl (other_stream time line besides m x (λ e. asked_other r (sym (of_request f r x at) ∙ e)))
       ] refl
     where
       asked_other : (r : ℕ) → stream_mark NearRequest r ≢ mark
       asked_other r e = (let never : 16 ≡ 15 = ap (λ (k : Mark). (key_of k).0) e in absurd (omega (arith, never)))
-  streams f time line m (Some k) request =
-      elim (flow_stream b t f k) as (λ o. flow_stream b t f k ≡ o → IsAsNear m (with_stream b time line o m)
-      ⊎ ((Some k ≡ Some n) × IsMessageThere f time m (with_stream b time line o m))) [
+  streams f time line besides m (Some k) request =
+      elim (flow_stream b t f k) as (λ o. flow_stream b t f k ≡ o → IsAsNear m (with_stream b time line besides o m)
+      ⊎ ((Some k ≡ Some n) × IsMessageThere f time m (with_stream b time line besides o m))) [
         | None ↦ λ _. inl (near_itself m)
         | Some x ↦ λ at. elim (cases_eq k n) [
-          | inl same ↦ inr (ap Some same, its_message f time line m x (subst (λ (i : ℕ). flow_stream b t f i ≡ Some x) same at))
-          | inr other ↦ inl (other_stream time line m x (λ e. other (ap (λ (y : Mark). y.subject) (sym (of_flow f k x at) ∙ e))))
+          | inl same ↦ elim besides as (λ d. IsAsNear m (with_stream b time line d (Some x) m)
+              ⊎ ((Some k ≡ Some n) × IsMessageThere f time m (with_stream b time line d (Some x) m))) [
+                | true ↦ inl (besides_stream time line m x)
+                | false ↦ inr (ap Some same, its_message f time line m x (subst (λ (i : ℕ). flow_stream b t f i ≡ Some x) same at))
+              ]
+          | inr other ↦ inl (other_stream time line besides m x (λ e. other (ap (λ (y : Mark). y.subject) (sym (of_flow f k x at) ∙ e))))
         ]
       ] refl
 
@@ -330,7 +339,7 @@ module _ (b : Settings) (t : Timing) (timed : b.plan.timing ≡ Some t) (n : ℕ
         let first : Moments = with_moment b t gap (length f.payload.items) time start in
         let second : Moments = with_ending b t ending first in
         let third : Moments = with_deviating b sighting.deviating sighting.unit (listed_pauses_ended b t unclear (length unclear) second) in
-        let fourth : Moments = with_stream b time line (sighted_stream b t f sighting.flow sighting.request) third in
+        let fourth : Moments = with_stream b time line sighting.besides (sighted_stream b t f sighting.flow sighting.request) third in
         let fifth : Moments = with_counted b sighting.unit line fourth in
         let before : IsAsNear first third = deviating_near sighting.deviating sighting.unit first (listed_pauses_ended b t unclear (length unclear) second)
         (near_more first second (listed_pauses_ended b t unclear (length unclear) second) (ending_near ending first) (listed_near unclear (length unclear) second)) in
@@ -339,7 +348,7 @@ module _ (b : Settings) (t : Timing) (timed : b.plan.timing ≡ Some t) (n : ℕ
         let from : third.earliest key ≡ begun m = before.earliest ∙ was.0 in
         let kept : hits mark third.untimely ≡ hits mark m.untimely = before.noted ∙ was.1 in
         let goes : HoldsSince time m fifth × (IsOtherFrame m fifth ⊎ IsNearFrame time m fifth) =
-        elim (streams f time line third sighting.flow sighting.request) [
+        elim (streams f time line sighting.besides third sighting.flow sighting.request) [
           | inl same ↦ (
             (behind.since ∙ same.since ∙ before.since, behind.before ∙ same.before ∙ before.before),
             inl (record {

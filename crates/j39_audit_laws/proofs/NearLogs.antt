@@ -27,7 +27,8 @@ use Rattle.j39_audit.specs.AuditText.{AuditPast, AuditsLines, look_at, log_ended
 use Rattle.j39_audit.specs.Breaks.{line_time}
 use Rattle.j39_audit.specs.Counting.{Noted, reported_at, occurrences_of}
 use Rattle.j39_audit.specs.Looking.{is_single}
-use Rattle.j39_audit.specs.MessageStreams.{flow_pace, flow_stream, group_in_flow, is_in_stream, paced_stream, shortest_us, stream_pause}
+use Rattle.j39_audit.specs.MessageStreams.{flow_pace, flow_stream, group_in_flow, is_in_stream, paced_stream, stream_pause}
+use Rattle.j39_audit.specs.UnitTimes.{shortest_us}
 use Rattle.j39_audit.specs.Moments.{Moments, all_pauses_ended, behind_gap, earliest_end, long_before, lower_bound, moment_window, moments_behind}
 use Rattle.j39_audit.specs.Near.{is_too_near}
 use Rattle.j39_audit.specs.Responses.{response, us_at_logger}

@@ -20,7 +20,8 @@ use Rattle.j39_load.specs.Clocks.{bit_time}
 use Rattle.j39_audit.specs.AuditText.{AuditPast, AuditsLines, look_at, log_ended, mark_at, broadcasts_there, counted_for, moments_with_frame, nothing_read, noted_newly}
 use Rattle.j39_audit.specs.Counting.{Noted, key_of, reported_at, occurrences_of}
 use Rattle.j39_audit.specs.Looking.{is_single}
-use Rattle.j39_audit.specs.MessageStreams.{flow_pace, flow_stream, group_in_flow, is_in_stream, paced_stream, shortest_us, stream_pause, nothing_sighted, sighted_behind}
+use Rattle.j39_audit.specs.MessageStreams.{flow_pace, flow_stream, group_in_flow, is_in_stream, paced_stream, stream_pause, nothing_sighted, sighted_behind}
+use Rattle.j39_audit.specs.UnitTimes.{shortest_us}
 use Rattle.j39_audit.specs.Moments.{Moments, all_pauses_ended, begins_anew, behind_gap, earliest_end, long_before, lower_bound, moment_window, moments_behind}
 use Rattle.j39_audit.specs.Near.{is_too_near}
 use Rattle.j39_audit.specs.Settings.{Settings, logger_error, response_of}
@@ -38,7 +39,8 @@ use Rattle.j39_audit_laws.proofs.Walk.{IsFrameNext, IsNext, at_end, moments_with
 use Rattle.j39_timing.specs.Errors.{Damaged, IsBusWithErrors}
 use Rattle.j39_load.specs.SentFrames.{Held}
 use Rattle.j39_audit.specs.BegunBroadcasts.{packet_with}
-use Rattle.j39_audit.specs.MessageStreams.{queued_within_ms, longest_us, slack_by, stream_mark}
+use Rattle.j39_audit.specs.MessageStreams.{queued_within_ms, slack_by, stream_mark}
+use Rattle.j39_audit.specs.UnitTimes.{longest_us}
 use Rattle.j39_audit.specs.Moments.{begun_anew, damaged_at_once, idle_behind, idle_mark, is_apart, leaves_idle, reach_back, shows_idle, since_behind, since_by, with_packet_stream}
 use Rattle.j39_audit.specs.declared.by_load.Bound.{Bound}
 use Rattle.j39_audit.specs.declared.by_load.Bound.TheVariants.{Bus}

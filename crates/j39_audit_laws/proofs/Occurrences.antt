@@ -12,7 +12,7 @@ use Rattle.j39_audit.specs.Counting.{Noted, most_times, reported_at, reported_in
 use Rattle.j39_audit.specs.Settings.{Settings}
 use Rattle.j39_audit.specs.declared.mark.Mark.{Mark}
 use Rattle.j39_audit.specs.declared.mark.Word.{Word}
-use Rattle.j39_audit.specs.declared.mark.Word.TheVariants.{Short, Stranger, Nobody as NobodyThere, Address, Cannot, Layout, NoFlow, Priority, Urgent, Seen, Unclear, Asked, Counted, Unsure, Break, NearFlow, NearRequest, SilentFlow, Deaf, NearPackets, SilentPackets, NearOrLate, SilentOrLate}
+use Rattle.j39_audit.specs.declared.mark.Word.TheVariants.{Short, Stranger, Nobody as NobodyThere, Address, Cannot, Layout, NoFlow, Priority, Urgent, Seen, Unclear, Asked, Counted, Unsure, Break, NearFlow, NearRequest, SilentFlow, Deaf, NearPackets, SilentPackets, NearOrLate, SilentOrLate, Answered, Answers, Besides}
 use Rattle.j39_audit.specs.declared.tally.Occurrences.{Occurrences}
 use Rattle.j39_audit.proofs.Hearing.{line_more}
 use Rattle.j39_audit_laws.specs.FoundLines.{IsAccusing, IsFoundAt, IsLineOf, LinesAreOfLog, IsReportedAt}
@@ -186,6 +186,9 @@ by_frames NearPackets is = absurd is
 by_frames SilentPackets is = absurd is
 by_frames NearOrLate is = absurd is
 by_frames SilentOrLate is = absurd is
+by_frames Answered is = absurd is
+by_frames Answers is = absurd is
+by_frames Besides is = absurd is
 
 pub looked : (end : AuditPast) (m : Mark) → IsAccusing m.word → reported_in end.noted m ≡ look_at end m
 looked end m is =

@@ -1,7 +1,7 @@
 -- Who keeps its own part isn't accused.
 use Rattle.std.proofs.Common.{◌≡◌, ◌≢◌, ℕ, zero, suc, ◌<◌, ◌==◌, ◌&&◌, ◌||◌, ◌++◌, ◌∷◌, [], List, true, not, length}
 use Rattle.std.proofs.Common.{inl, inr, refl, sym, ap, ◌∙◌, subst, arith, eqb-true, Option, Some}
-use Rattle.std.specs.Prelude.{Contains, nat_lt, nat_le}
+use Rattle.std.specs.Prelude.{Contains, nat_lt, nat_le, false, Bool, None}
 use Rattle.std.specs.Option.{is_some}
 use Rattle.std.proofs.lemmas.Bool.{and_from, and_parts, cond-true, eq-eqb, le-leb, ltb-true, not-true, or_cases, or_left, or_right, true≢false}
 use Rattle.std.proofs.lemmas.Option.{none-some}
@@ -16,19 +16,19 @@ use Rattle.j39_network.specs.declared.plan.timing.Timing.{Timing}
 use Rattle.j39_tp.specs.declared.packet.Packet.{Packet}
 use Rattle.j39_audit.specs.AuditText.{Look, groups_named, line_of_mark, line_reported, look_at, mark_at, subject_lines, reported_mark}
 use Rattle.j39_audit.specs.Below.{each_below}
-use Rattle.j39_audit.specs.Claiming.{HeardClaims, Knowledge, knowledge}
-use Rattle.j39_audit.specs.Looking.{is_above_unplanned, is_claim, is_of_own_group, is_of_transport, is_single, is_urgent, may_be_transport, single}
+use Rattle.j39_audit.specs.Claiming.{HeardClaims, Knowledge, knowledge, was_asked_for}
+use Rattle.j39_audit.specs.Looking.{is_above_unplanned, is_claim, is_of_own_group, is_of_transport, is_single, is_urgent, may_be_transport, single, told, answers_request, is_answer}
 use Rattle.j39_audit.specs.SentMessages.{first_group}
 use Rattle.j39_audit.specs.Settings.{AreMoving, Settings}
 use Rattle.j39_audit.specs.declared.mark.Mark.{Mark}
 use Rattle.j39_audit.specs.declared.mark.Word.{Word}
-use Rattle.j39_audit.specs.declared.mark.Word.TheVariants.{Short, Stranger, Nobody as NobodyThere, Address, Cannot, Layout, NoFlow, Priority, Urgent, Seen, Unclear, Asked, Counted, Unsure, Break, NearFlow, NearRequest, SilentFlow, Deaf, NearPackets, SilentPackets, NearOrLate, SilentOrLate}
+use Rattle.j39_audit.specs.declared.mark.Word.TheVariants.{Short, Stranger, Nobody as NobodyThere, Address, Cannot, Layout, NoFlow, Priority, Urgent, Seen, Unclear, Asked, Counted, Unsure, Break, NearFlow, NearRequest, SilentFlow, Deaf, NearPackets, SilentPackets, NearOrLate, SilentOrLate, Answered, Answers, Besides}
 use Rattle.j39_audit.specs.declared.messages.Test.TheVariants.{Any}
 use Rattle.j39_audit.specs.declared.tally.Occurrences.{Occurrences}
 use Rattle.j39_audit_laws.specs.FoundLines.{Differs, IsAccusing, IsFoundAt, IsFrameAt, IsAccusedAs, IsReportedAt}
-use Rattle.j39_audit_laws.specs.OwnPart.{AlwaysCan, AreItsOwn, ClaimsItsOwn, ClaimsWhereItMay, IsByThePlan, IsItsNumber, IsNotNamed, LooksAsPlanned, SaysCannotWhereItHasTo, SentBy, WaitsForPlanned}
+use Rattle.j39_audit_laws.specs.OwnPart.{AlwaysCan, AreItsOwn, ClaimsItsOwn, ClaimsWhereItMay, IsByThePlan, IsItsNumber, IsNotNamed, LooksAsPlanned, SaysCannotWhereItHasTo, SentBy, WaitsForPlanned, LooksPlannedOrAsked, OfItsFrames, IsOfFlowPlanned}
 use Rattle.j39_audit_laws.proofs.Planned.{at_place, claims_so, differing_number, its_address, place_at, planned_alike, some_group}
-use Rattle.j39_audit_laws.proofs.Marking.{sender_of}
+use Rattle.j39_audit_laws.proofs.Marking.{sender_of, told_is}
 use Rattle.j39_audit_laws.proofs.Occurrences.{lines_are_of_log}
 
 -- ---- what is never found isn't written
@@ -77,6 +77,9 @@ stated_itself look NearPackets u g is = absurd is
 stated_itself look SilentPackets u g is = absurd is
 stated_itself look NearOrLate u g is = absurd is
 stated_itself look SilentOrLate u g is = absurd is
+stated_itself look Answered u g is = absurd is
+stated_itself look Answers u g is = absurd is
+stated_itself look Besides u g is = absurd is
 
 pub none_of_subject : (s : Settings) (log : List Line) (word : Word) (u : ℕ) → IsAccusing word → ((g n : ℕ) → ¬ IsFoundAt s log n (mark_at word u g))
     → IsNotNamed s log word u
@@ -127,18 +130,45 @@ claims_its_own s log sent u moving own keeps =
 
 -- ---- messages
 
-module _ (s : Settings) (log : List Line) (sent : SentBy) (u : ℕ) (moving : AreMoving s.plan s.moving) (own : AreItsOwn s log sent u)
-    (keeps : LooksAsPlanned s log sent u) where
-  differs_never : (word : Word) (g n : ℕ) (claims : HeardClaims) (f : Frame) (packet : Option Packet) → IsFrameAt s log n claims f packet
-      → ¬ Differs s claims f packet (record { word = word; subject = u; group = g })
-  differs_never word g n claims f packet at d =
-      let its = own.frames n claims f packet at d.sent.other d.sent.address d.sent.sender_is in
-      let k : Knowledge = knowledge s claims in
-      let same : d.message.unit ≡ u = sender_of u f packet d.message d.message_is in
-      let number : IsItsNumber s.plan u d.message.number =
-      subst (λ (v : ℕ). IsItsNumber s.plan v d.message.number) same (differing_number s k d.message _ d.differs) in
-      let planned = keeps n claims f packet at its d.message d.message_is number in
-      none-some _ (sym (planned_alike s moving k d.message planned) ∙ d.differs)
+module _ (s : Settings) (log : List Line) (sent : SentBy) (u : ℕ) (moving : AreMoving s.plan s.moving) (own : AreItsOwn s log sent u) where
+  -- each message that may differ is of a flow, or not told
+  module _ (word : Word) (g : ℕ) (keeps : OfItsFrames s log sent u (λ claims f packet. (m : SentMessage) → message_sent u f packet ≡ Some m
+      → IsItsNumber s.plan u m.number → IsOfFlowPlanned s.plan (knowledge s claims) m
+      ⊎ (told s (knowledge s claims) m ≢ Some (record { word = word; subject = u; group = g })))) where
+    told_never : (n : ℕ) (claims : HeardClaims) (f : Frame) (packet : Option Packet) → IsFrameAt s log n claims f packet
+        → ¬ Differs s claims f packet (record { word = word; subject = u; group = g })
+    told_never n claims f packet at d =
+        let its = own.frames n claims f packet at d.sent.other d.sent.address d.sent.sender_is in
+        let k : Knowledge = knowledge s claims in
+        let same : d.message.unit ≡ u = sender_of u f packet d.message d.message_is in
+        let differs = told_is s k d.message _ d.differs in
+        let number : IsItsNumber s.plan u d.message.number =
+        subst (λ (v : ℕ). IsItsNumber s.plan v d.message.number) same (differing_number s k d.message _ differs) in
+        elim (keeps n claims f packet at its d.message d.message_is number) [
+          | inl planned ↦ none-some _ (sym (planned_alike s moving k d.message planned) ∙ differs)
+          | inr not ↦ not d.differs
+        ]
+
+  differs_never : LooksAsPlanned s log sent u → (word : Word) (g n : ℕ) (claims : HeardClaims) (f : Frame) (packet : Option Packet)
+      → IsFrameAt s log n claims f packet → ¬ Differs s claims f packet (record { word = word; subject = u; group = g })
+  differs_never keeps word g = told_never word g (λ n claims f packet at its m is number. inl (keeps n claims f packet at its m is number))
+
+  -- what answers isn't told as a message without a flow
+  answers_never : (k : Knowledge) (m : SentMessage) (g : ℕ) → was_asked_for s k false m.number m.source ≡ true
+      → told s k m ≢ Some (record { word = NoFlow; subject = u; group = g })
+  unfolding answers_request
+  answers_never k m g asked is =
+      let differs = told_is s k m _ is in
+      let answers : answers_request s k m ≡ true = ap (is_answer (was_asked_for s k false m.number m.source)) differs
+      ∙ ap (λ (b : Bool). b && true) asked in
+      none-some _ (sym (cond-true (answers_request s k m) None (deviation s k m) answers) ∙ is)
+
+  flows_never : LooksPlannedOrAsked s log sent u → (g n : ℕ) (claims : HeardClaims) (f : Frame) (packet : Option Packet)
+      → IsFrameAt s log n claims f packet → ¬ Differs s claims f packet (record { word = NoFlow; subject = u; group = g })
+  flows_never keeps g = told_never NoFlow g (λ n claims f packet at its m is number. elim (keeps n claims f packet at its m is number) [
+    | inl planned ↦ inl planned
+    | inr asked ↦ inr (answers_never (knowledge s claims) m g asked)
+  ])
 
 pub layouts_are_planned : (s : Settings) (log : List Line) (sent : SentBy) (u : ℕ) → AreMoving s.plan s.moving → AreItsOwn s log sent u
     → LooksAsPlanned s log sent u → IsNotNamed s log Layout u
@@ -146,9 +176,9 @@ layouts_are_planned s log sent u moving own keeps =
     of_frames s log Layout u tt (λ e. cc e) (differs_never s log sent u moving own keeps Layout)
 
 pub flows_are_planned : (s : Settings) (log : List Line) (sent : SentBy) (u : ℕ) → AreMoving s.plan s.moving → AreItsOwn s log sent u
-    → LooksAsPlanned s log sent u → IsNotNamed s log NoFlow u
+    → LooksPlannedOrAsked s log sent u → IsNotNamed s log NoFlow u
 flows_are_planned s log sent u moving own keeps =
-    of_frames s log NoFlow u tt (λ e. cc e) (differs_never s log sent u moving own keeps NoFlow)
+    of_frames s log NoFlow u tt (λ e. cc e) (flows_never s log sent u moving own keeps)
 
 pub priorities_are_planned : (s : Settings) (log : List Line) (sent : SentBy) (u : ℕ) → AreMoving s.plan s.moving → AreItsOwn s log sent u
     → LooksAsPlanned s log sent u → IsNotNamed s log Priority u

@@ -17,7 +17,7 @@ use Rattle.j39_network.specs.declared.plan.to.To.TheVariants.{One as ToOne}
 use Rattle.j39_audit.specs.Counting.{Noted}
 use Rattle.j39_audit.specs.Looking.{is_single}
 use Rattle.j39_audit.specs.MessageStreams.{asked_stream, nothing_sighted, sighted_behind, flow_pace, flow_pause, flow_pause_of, flow_stream, group_in_flow, is_in_stream, paced_stream, request_period, request_priority, shows_silence, sighted_stream, stream_pause}
-use Rattle.j39_audit.specs.Moments.{Moments, all_pauses_ended, begun_anew, earliest_end, listed_pauses_ended, long_before, lower_bound, moment_window, moments_behind, newest_moment, silent_noted, with_counted, with_deviating, with_ending, with_frame_of, with_message, with_moment, with_pause, with_stream, with_time}
+use Rattle.j39_audit.specs.Moments.{Moments, all_pauses_ended, begun_anew, earliest_end, listed_pauses_ended, long_before, lower_bound, moment_window, moments_behind, newest_moment, silent_noted, with_counted, with_deviating, with_ending, with_frame_of, with_message, with_moment, with_pause, with_stream, with_time, with_message_of}
 use Rattle.j39_audit.specs.Pauses.{stands_for, unclear_behind}
 use Rattle.j39_audit.specs.Settings.{Settings, by_load as judged_by_load, logger_error, response_of, units_planned}
 use Rattle.j39_audit.specs.Silence.{lag, latest_next, lies_behind, within_pause}
@@ -120,47 +120,68 @@ module _ (plain : Settings) (w : Watched (judged_by_load plain)) where
   abbrev pub IsUnseen : Frame → Option ℕ → Type 0
   IsUnseen f flow = flow ≡ Some n → flow_stream s t f n ≡ None
 
-  module _ (time line : ℕ) (m : Moments) where
-    abbrev behind : MessageStream → Moments
-    behind x = with_stream s time line (Some x) m
+  module _ (time line : ℕ) (besides : Bool) (m : Moments) where
+    -- a message that may have been sent besides those of its stream leaves more, and any leaves this
+    record IsBefore (inner : Moments) : Type 0 where
+      newest : inner.newest ≡ m.newest
+      last : inner.last ≡ m.last
+      since : inner.since ≡ m.since
+      keeps : Keeps m inner
 
-    window_of : MessageStream → Window
+    one_before : (d : Bool) (x : MessageStream) (window : Window) → IsBefore (with_message_of d x window line m)
+    one_before true x window = record { newest = refl; last = refl; since = refl; keeps = λ note is. is }
+    one_before false x window = record { newest = refl; last = refl; since = refl; keeps = λ note is. in_left note m.untimely _ is }
+
+    abbrev window_of : MessageStream → Window
     window_of x = moment_window s x.slack time m.since
 
-    pub stream_keeps : (o : Option MessageStream) → Keeps m (with_stream s time line o m)
+    abbrev inner_of : MessageStream → Moments
+    inner_of x = with_message_of besides x (window_of x) line m
+
+    abbrev behind : MessageStream → Moments
+    behind x = with_stream s time line besides (Some x) m
+
+    pub stream_keeps : (o : Option MessageStream) → Keeps m (with_stream s time line besides o m)
     stream_keeps None note is = is
     stream_keeps (Some x) note is =
-        let inner : Moments = with_message x (moment_window s x.slack time m.since) line m in
-        let before : In note inner.untimely = in_left note m.untimely _ is in
-        elim (x.pause) as (λ o. In note (with_pause o x.mark.subject (moment_window s x.slack time m.since) line inner).untimely) [
+        let inner : Moments = inner_of x in
+        let before : In note inner.untimely = (one_before besides x (window_of x)).keeps note is in
+        elim (x.pause) as (λ o. In note (with_pause o x.mark.subject (window_of x) line inner).untimely) [
           | None ↦ before
           | Some pause ↦ in_left note inner.untimely _ before
         ]
 
     same_stream : (x : MessageStream) (o : Option ℕ) → (o ≡ None) ⊎ (x.mark.subject ≢ n)
-        → IsSame s w m (with_pause o x.mark.subject (moment_window s x.slack time m.since) line (with_message x (moment_window s x.slack time m.since) line m))
-    same_stream x None other = record { newest = refl; last = λ u end. refl; since = refl }
+        → IsSame s w m (with_pause o x.mark.subject (window_of x) line (inner_of x))
+    same_stream x None other =
+        let is = one_before besides x (window_of x) in
+        record { newest = ap (λ (g : ℕ → Option Newest). g n) is.newest; last = λ u end. ap (λ (g : ℕ → Option LastFrame). g u) is.last; since = is.since }
     same_stream x (Some pause) (inl none) = absurd (none-some pause (sym none))
-    same_stream x (Some pause) (inr other) = record {
-      newest = cond-false (x.mark.subject == n) _ (m.newest n) (ne_eqb x.mark.subject n other);
-      last = λ u end. refl;
-      since = refl;
-    }
+    same_stream x (Some pause) (inr other) =
+        let is = one_before besides x (window_of x) in
+        let inner : Moments = inner_of x in
+        record {
+          newest = cond-false (x.mark.subject == n) _ (inner.newest n) (ne_eqb x.mark.subject n other) ∙ ap (λ (g : ℕ → Option Newest). g n) is.newest;
+          last = λ u end. ap (λ (g : ℕ → Option LastFrame). g u) is.last;
+          since = is.since;
+        }
 
     stated_stream : (x : MessageStream) (since : ℕ) → IsStreamOf n x → IsOpen s w m → m.since ≡ Some since → bound s w < since → IsStated s w (behind x)
     stated_stream x since of is since_is late =
-        let window : Window = moment_window s x.slack time m.since in
-        let inner : Moments = with_message x window line m in
+        let window : Window = window_of x in
+        let inner : Moments = inner_of x in
+        let newest_is : inner.newest n ≡ Some is.newest =
+        ap (λ (g : ℕ → Option Newest). g n) (one_before besides x window).newest ∙ is.newest_is in
         let slack : x.slack ≡ w.pause.slack = of.slack ∙ sym (pause_parts w.pause w.pause_is).0 in
         let lagging = lags_since s w is.newest.moment m.since since since_is is.moment late in
         let lower : window.lower ≡ lower_bound w.pause.slack m.since = ap (λ (o : Option ℕ). lower_bound o m.since) slack in
         let by : lag w.pause.pause (newest_moment (inner.newest n)) window.lower ≡ Some lagging.0 =
-        ap (λ (o : Option Newest). lag w.pause.pause (newest_moment o) window.lower) is.newest_is
+        ap (λ (o : Option Newest). lag w.pause.pause (newest_moment o) window.lower) newest_is
         ∙ ap (λ (o : Option ℕ). lag w.pause.pause (Some is.newest.moment) o) lower ∙ lagging.1 in
         let new : Moments = with_pause (Some w.pause.pause) n window line inner in
         let stated : IsStated s w new =
         stated_by s w inner new is.newest (lag w.pause.pause (newest_moment (inner.newest n)) window.lower) lagging.0
-        (ap (λ (o : Option Newest). new_notes inner o (lag w.pause.pause (newest_moment (inner.newest n)) window.lower)) is.newest_is) by in
+        (ap (λ (o : Option Newest). new_notes inner o (lag w.pause.pause (newest_moment (inner.newest n)) window.lower)) newest_is) by in
         subst (λ (k : ℕ). IsStated s w (with_pause x.pause k window line inner)) (sym of.subject)
         (subst (λ (o : Option ℕ). IsStated s w (with_pause o n window line inner)) (sym (of.pause ∙ its_pause)) stated)
       where
@@ -168,17 +189,17 @@ module _ (plain : Settings) (w : Watched (judged_by_load plain)) where
         new_notes inner o by = inner.untimely ++ silent_noted n o by
 
     pub with_messages_of : (f : Frame) (flow request : Option ℕ) (since : ℕ) → IsOpen s w m → m.since ≡ Some since → (flow ≡ Some n → bound s w < since)
-        → (IsSame s w m (with_stream s time line (sighted_stream s t f flow request) m) × IsUnseen f flow)
-        ⊎ IsStated s w (with_stream s time line (sighted_stream s t f flow request) m)
+        → (IsSame s w m (with_stream s time line besides (sighted_stream s t f flow request) m) × IsUnseen f flow)
+        ⊎ IsStated s w (with_stream s time line besides (sighted_stream s t f flow request) m)
     with_messages_of f None None since is since_is late =
         inl (record { newest = refl; last = λ u end. refl; since = refl }, λ e. absurd (none-some n e))
     with_messages_of f None (Some r) since is since_is late =
-        elim (asked_stream s t f r) as (λ o. asked_stream s t f r ≡ o → (IsSame s w m (with_stream s time line o m) × IsUnseen f None) ⊎ IsStated s w (with_stream s time line o m)) [
+        elim (asked_stream s t f r) as (λ o. asked_stream s t f r ≡ o → (IsSame s w m (with_stream s time line besides o m) × IsUnseen f None) ⊎ IsStated s w (with_stream s time line besides o m)) [
           | None ↦ λ _. inl (record { newest = refl; last = λ u end. refl; since = refl }, λ e. absurd (none-some n e))
           | Some x ↦ λ at. inl (same_stream x x.pause (inl (asked_parts f r x at)), λ e. absurd (none-some n e))
         ] refl
     with_messages_of f (Some k) request since is since_is late =
-        elim (flow_stream s t f k) as (λ o. flow_stream s t f k ≡ o → (IsSame s w m (with_stream s time line o m) × IsUnseen f (Some k)) ⊎ IsStated s w (with_stream s time line o m)) [
+        elim (flow_stream s t f k) as (λ o. flow_stream s t f k ≡ o → (IsSame s w m (with_stream s time line besides o m) × IsUnseen f (Some k)) ⊎ IsStated s w (with_stream s time line besides o m)) [
           | None ↦ λ at. inl (
             record { newest = refl; last = λ u end. refl; since = refl },
             λ e. subst (λ (i : ℕ). flow_stream s t f i ≡ None) (same_Some k n e) at,
@@ -264,9 +285,9 @@ module _ (plain : Settings) (w : Watched (judged_by_load plain)) where
         let a : Moments = with_moment s x gap (length f.payload.items) τ m in
         let b : Moments = with_ending s x ending a in
         let c : Moments = with_deviating s sighting.deviating sighting.unit (listed_pauses_ended s x unclear (length unclear) b) in
-        let d : Moments = with_stream s τ line (sighted_stream s x f sighting.flow sighting.request) c in
+        let d : Moments = with_stream s τ line sighting.besides (sighted_stream s x f sighting.flow sighting.request) c in
         counted_keeps sighting.unit line d note
-        (stream_keeps τ line c (sighted_stream s x f sighting.flow sighting.request) note
+        (stream_keeps τ line sighting.besides c (sighted_stream s x f sighting.flow sighting.request) note
         (listed_keep s x unclear (length unclear) b note (ending_keeps s x ending a note is)))
 
     begun_keeps : (m : Moments) → Keeps m (begun_anew s anew gap m)
@@ -292,16 +313,16 @@ module _ (plain : Settings) (w : Watched (judged_by_load plain)) where
             | Some l ↦ omega arith
           ]))
 
-      is_newest : (m : Moments) (x : MessageStream) → flow_stream s t f n ≡ Some x → IsOpen s w (with_stream s τ line (Some x) m)
-      is_newest m x at =
+      is_newest : (d : Bool) (m : Moments) (x : MessageStream) → flow_stream s t f n ≡ Some x → IsOpen s w (with_stream s τ line d (Some x) m)
+      is_newest d m x at =
           let of = stream_parts f n x at in
           let window : Window = moment_window s x.slack τ m.since in
-          let inner : Moments = with_message x window line m in
+          let inner : Moments = with_message_of d x window line m in
           let newest : Newest = record { moment = latest_next w.pause.pause (newest_moment (inner.newest n)) window; line = line } in
           let least = by_upper w.pause.pause (newest_moment (inner.newest n)) window in
           let is : IsOpen s w (with_pause (Some w.pause.pause) n window line inner) = record {
             newest = newest;
-            newest_is = cond-true (n == n) (Some newest) (m.newest n) (eq-eqb n n refl);
+            newest_is = cond-true (n == n) (Some newest) (inner.newest n) (eq-eqb n n refl);
             moment = omega (arith, least, fits);
             line = here;
           } in
@@ -321,11 +342,11 @@ module _ (plain : Settings) (w : Watched (judged_by_load plain)) where
           (listed_pauses_ended s t unclear (length unclear) (with_ending s t ending (with_moment s t gap (length f.payload.items) τ m))) in
           let stream : sighted_stream s t f sighting.flow sighting.request ≡ flow_stream s t f n =
           ap (λ (o : Option ℕ). sighted_stream s t f o sighting.request) seen in
-          counted_open sighting.unit (with_stream s τ line (sighted_stream s t f sighting.flow sighting.request) c)
-          (subst (λ (o : Option MessageStream). IsOpen s w (with_stream s τ line o c)) (sym stream)
-          (elim (flow_stream s t f n) as (λ o. flow_stream s t f n ≡ o → IsOpen s w (with_stream s τ line o c)) [
+          counted_open sighting.unit (with_stream s τ line sighting.besides (sighted_stream s t f sighting.flow sighting.request) c)
+          (subst (λ (o : Option MessageStream). IsOpen s w (with_stream s τ line sighting.besides o c)) (sym stream)
+          (elim (flow_stream s t f n) as (λ o. flow_stream s t f n ≡ o → IsOpen s w (with_stream s τ line sighting.besides o c)) [
             | None ↦ λ none. absurd (some none)
-            | Some x ↦ λ at. is_newest c x at
+            | Some x ↦ λ at. is_newest sighting.besides c x at
           ] refl))
 
       pub opens : (m : Moments) → IsOpen s w (with_frame m)
@@ -366,7 +387,7 @@ module _ (plain : Settings) (w : Watched (judged_by_load plain)) where
           let b : Moments = with_ending s t ending a in
           let c : Moments = listed_pauses_ended s t unclear (length unclear) b in
           let e : Moments = with_deviating s sighting.deviating sighting.unit c in
-          let d : Moments = with_stream s τ line (sighted_stream s t f sighting.flow sighting.request) e in
+          let d : Moments = with_stream s τ line sighting.besides (sighted_stream s t f sighting.flow sighting.request) e in
           let same_e : IsSame s w c e = record {
             newest = cond-false (stands_for s.plan sighting.deviating sighting.unit n) None (c.newest n) unstood;
             last = λ u end. refl;
@@ -375,16 +396,16 @@ module _ (plain : Settings) (w : Watched (judged_by_load plain)) where
           let opened : IsOpen s w a = record { newest = is.newest; newest_is = is.newest_is; moment = is.moment; line = is.line } in
           elim (claimed s w ending a opened (λ ends. shown (inr (inl ends)))) [
             | inr stated ↦ inr (reported_on s w b (with_counted s sighting.unit line d) (λ note in_b.
-                counted_keeps sighting.unit line d note (stream_keeps τ line e (sighted_stream s t f sighting.flow sighting.request) note
+                counted_keeps sighting.unit line d note (stream_keeps τ line sighting.besides e (sighted_stream s t f sighting.flow sighting.request) note
                 (listed_keep s t unclear (length unclear) b note in_b))) stated)
             | inl (same_b, unended) ↦
                 elim (listed s w unclear b (same_open s w a b same_b opened)
                 (λ i less here. same_shown s w a b same_b (shown (inr (inr (contained i less here))))) (length unclear) (omega arith)) [
                   | inr stated ↦ inr (reported_on s w c (with_counted s sighting.unit line d) (λ note in_c.
-                      counted_keeps sighting.unit line d note (stream_keeps τ line e (sighted_stream s t f sighting.flow sighting.request) note in_c)) stated)
+                      counted_keeps sighting.unit line d note (stream_keeps τ line sighting.besides e (sighted_stream s t f sighting.flow sighting.request) note in_c)) stated)
                   | inl (same_c, others) ↦
                       let both : IsSame s w a e = same_more s w a c e (same_more s w a b c same_b same_c) same_e in
-                      elim (with_messages_of τ line e f sighting.flow sighting.request (earliest_end s τ) (same_open s w a e both opened) both.since
+                      elim (with_messages_of τ line sighting.besides e f sighting.flow sighting.request (earliest_end s τ) (same_open s w a e both opened) both.since
                       (λ seen. late seen τ at)) [
                         | inr stated ↦ inr (reported_on s w d (with_counted s sighting.unit line d) (counted_keeps sighting.unit line d) stated)
                         | inl (same_d, unseen) ↦

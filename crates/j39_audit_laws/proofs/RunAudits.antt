@@ -23,6 +23,7 @@ use Rattle.j39_audit_laws.proofs.Own.{none_below, none_of_subject, of_frames}
 use Rattle.j39_audit_laws.proofs.Planned.{claims_so, its_address, planned_alike, some_below}
 use Rattle.j39_audit_laws.proofs.RunFrames.{IsFromIts, IsItsClaim, IsNewest, IsSoundFrame, claims_behind_those, claims_of, claims_stay, newest_front}
 use Rattle.j39_audit_laws.proofs.RunLogs.{AreClaimsOf, no_short, one_of_them}
+use Rattle.j39_audit_laws.proofs.Marking.{told_is}
 
 -- ---- who may be there
 
@@ -232,7 +233,7 @@ module _ (s : Settings) (moving : AreMoving s.plan s.moving) (log : List Line) (
       subst (λ (v : ℕ). message_sent v f packet ≡ Some d.message) (sym (its.unit_is ∙ same)) d.message_is in
       let k : Knowledge = knowledge s claims in
       let planned = its.is.planned packet d.message at.packet_is sent k in
-      none-some _ (sym (planned_alike s moving k d.message planned) ∙ d.differs)
+      none-some _ (sym (planned_alike s moving k d.message planned) ∙ told_is s k d.message _ d.differs)
 
   pub no_layout_line : IsNotWritten s log Layout
   no_layout_line = no_word s log Layout (λ u. of_frames s log Layout u tt (λ e. cc e) (differs_never Layout u))

@@ -179,7 +179,8 @@ passed_claims s BadData past = (refl, refl, inl refl)
 
 -- a frame that stands there again leaves the claims, the one before it, and that line's interface
 record IsAgainRead (past next : AuditPast) (named : Option (List ℕ)) : Type 0 where
-  claims : next.claims ≡ past.claims
+  all : next.claims.all ≡ past.claims.all
+  recent : next.claims.recent ≡ past.claims.recent
   interface : next.interface ≡ interface_behind past.interface named
   taken : next.taken ≡ past.taken
 
@@ -187,12 +188,13 @@ again_read : (s : Settings) (past : AuditPast) (time : Option ℕ) (named : Opti
 unfolding past_again
 again_read s past time named =
     let same = of_taken past.taken time in
-    record { claims = same.0; interface = refl; taken = same.1 }
+    record { all = same.0; recent = same.1; interface = refl; taken = same.2 }
   where
-    of_taken : (taken : Option TakenFrame) (time : Option ℕ) → ((past_again s taken time past).claims ≡ past.claims) × ((past_again s taken time past).taken ≡ past.taken)
-    of_taken None time = (refl, refl)
-    of_taken (Some one) None = (refl, refl)
-    of_taken (Some one) (Some τ) = (refl, refl)
+    of_taken : (taken : Option TakenFrame) (time : Option ℕ) → ((past_again s taken time past).claims.all ≡ past.claims.all)
+        × ((past_again s taken time past).claims.recent ≡ past.claims.recent) × ((past_again s taken time past).taken ≡ past.taken)
+    of_taken None time = (refl, refl, refl)
+    of_taken (Some one) None = (refl, refl, refl)
+    of_taken (Some one) (Some τ) = (refl, refl, refl)
 
 -- it is the one before
 same_as_before : (plan : Plan) (taken : Option TakenFrame) (time : Option ℕ) (f : Frame) → is_again plan taken time f ≡ true
@@ -213,11 +215,24 @@ same_as_before plan (Some one) (Some τ) f is =
           )
     ] is
 
+-- what was asked for is no claim
+same_claims : (s : Settings) (old new : HeardClaims) (heard : List Frame) → new.all ≡ old.all → new.recent ≡ old.recent → AreClaimsOf s old heard
+    → AreClaimsOf s new heard
+same_claims s old new heard all recent are = record {
+  newest_are = λ u. ap (newest_of u) all ∙ are.newest_are u;
+  older = are.older;
+  recent_are = all ∙ are.recent_are ∙ sym (ap (λ (l : List Heard). l ++ are.older) recent);
+}
+
+still_newest : (s : Settings) (old new : HeardClaims) (f : Frame) → new.all ≡ old.all → IsNewestClaim s old f → IsNewestClaim s new f
+still_newest s old new f all is claim = (let (rest, row) = is claim in (rest, all ∙ row))
+
 frame_claims : (s : Settings) (past : AuditPast) (time : Option ℕ) (named : Option (List ℕ)) (f : Frame) (packet : Option Packet)
-    → ((past_with_frame s past time named f packet).claims ≡ claims_behind s f (claims_before s past time))
+    → ((past_with_frame s past time named f packet).claims.all ≡ (claims_behind s f (claims_before s past time)).all)
+    × ((past_with_frame s past time named f packet).claims.recent ≡ (claims_behind s f (claims_before s past time)).recent)
     × ((past_with_frame s past time named f packet).interface ≡ interface_behind past.interface named)
 unfolding past_with_frame
-frame_claims s past time named f packet = (refl, refl)
+frame_claims s past time named f packet = (refl, refl, refl)
 
 taken_of : (time : Option ℕ) (f : Frame) (line : ℕ) (w : Sighting) (one : TakenFrame) → taken_frame time f line w ≡ Some one → one.frame ≡ f
 taken_of None f line w one is = absurd (none-some one is)
@@ -247,15 +262,16 @@ read_more s past (ShortLine l) next more frames (part, named, part_is, named_is,
     (reads_on past.interface l part named more r.left part_is named_is r.reads) in
     let kept = again_read s begun t named in
     let (one, taken, same) = same_as_before s.plan past.taken t f again in
-    let claims : next.claims ≡ past.claims = ap (λ (p : AuditPast). p.claims) e ∙ kept.claims in
+    let all : next.claims.all ≡ past.claims.all = ap (λ (p : AuditPast). p.claims.all) e ∙ kept.all in
+    let recent : next.claims.recent ≡ past.claims.recent = ap (λ (p : AuditPast). p.claims.recent) e ∙ kept.recent in
     let interface : next.interface ≡ interface_behind past.interface named = ap (λ (p : AuditPast). p.interface) e ∙ kept.interface in
     let newest : IsNewestClaim s past.claims f = subst (IsNewestClaim s past.claims) same (r.newest one taken) in
     record {
       heard = r.heard ++ f ∷ [];
       left = left;
       row = r.row ∙ ap (λ (x : List Frame). r.heard ++ x) row ∙ sym (append_assoc r.heard (f ∷ []) left);
-      claims_are = subst (λ (c : HeardClaims). AreClaimsOf s c (r.heard ++ f ∷ [])) (sym claims) (again_claims s past.claims r.heard f r.claims_are newest);
-      newest = λ other is. subst (λ (c : HeardClaims). IsNewestClaim s c other.frame) (sym claims)
+      claims_are = same_claims s past.claims next.claims (r.heard ++ f ∷ []) all recent (again_claims s past.claims r.heard f r.claims_are newest);
+      newest = λ other is. still_newest s past.claims next.claims other.frame all
           (r.newest other (sym (ap (λ (p : AuditPast). p.taken) e ∙ kept.taken) ∙ is));
       reads = subst (λ (i : Option (List ℕ)). AreReadAs i more left) (sym interface) reads;
     }
@@ -265,19 +281,23 @@ read_more s past (ShortLine l) next more frames (part, named, part_is, named_is,
     let (left, row, reads) = next_frame past.interface part named more r.left f here spelled
     (reads_on past.interface l part named more r.left part_is named_is r.reads) in
     let same = frame_claims s begun t named f packet in
-    let claims : next.claims ≡ claims_behind s f (claims_before s begun t) = ap (λ (p : AuditPast). p.claims) e ∙ same.0 in
-    let interface : next.interface ≡ interface_behind past.interface named = ap (λ (p : AuditPast). p.interface) e ∙ same.1 in
+    let behind : HeardClaims = claims_behind s f (claims_before s begun t) in
+    let all : next.claims.all ≡ behind.all = ap (λ (p : AuditPast). p.claims.all) e ∙ same.0 in
+    let recent : next.claims.recent ≡ behind.recent = ap (λ (p : AuditPast). p.claims.recent) e ∙ same.1 in
+    let interface : next.interface ≡ interface_behind past.interface named = ap (λ (p : AuditPast). p.interface) e ∙ same.2 in
+    let unbroken : HeardClaims = broken_off (breaks s.stamps past.newest t) past.claims in
+    let before : AreClaimsOf s (claims_before s begun t) r.heard = same_claims s unbroken (claims_before s begun t) r.heard refl refl
+    (break_claims s past.claims r.heard (breaks s.stamps past.newest t) r.claims_are) in
     record {
       heard = r.heard ++ f ∷ [];
       left = left;
       row = r.row ∙ ap (λ (x : List Frame). r.heard ++ x) row ∙ sym (append_assoc r.heard (f ∷ []) left);
-      claims_are = subst (λ (c : HeardClaims). AreClaimsOf s c (r.heard ++ f ∷ [])) (sym claims)
-          (more_claims s (claims_before s begun t) r.heard f (break_claims s past.claims r.heard (breaks s.stamps past.newest t) r.claims_are));
+      claims_are = same_claims s behind next.claims (r.heard ++ f ∷ []) all recent (more_claims s (claims_before s begun t) r.heard f before);
       newest = λ one is.
           let w = sighted_behind nothing_sighted (noted_newly s begun t f packet) in
           let its : one.frame ≡ f = taken_of t f begun.number w one (sym (ap (λ (p : AuditPast). p.taken) e ∙ taken_with s begun t named f packet) ∙ is) in
           subst (λ (g : Frame). IsNewestClaim s next.claims g) (sym its)
-          (subst (λ (c : HeardClaims). IsNewestClaim s c f) (sym claims) (λ claim. (
+          (still_newest s behind next.claims f all (λ claim. (
             (claims_before s begun t).all,
             ap (λ (c : HeardClaims). c.all)
                 (cond-true (is_claim f) (with_claim (heard_of s.plan f) (claims_before s begun t)) (claims_before s begun t) claim),
@@ -328,7 +348,9 @@ module _ (s : Settings) (log : List Line) (frames : List Frame) (reads : AreRead
         behind = left;
         row = r.row ∙ ap (λ (x : List Frame). r.heard ++ x) row;
         claims_are = subst (λ (c : HeardClaims). AreClaimsOf s c r.heard) (sym at.claims_are)
-            (break_claims s at.past.claims r.heard (breaks s.stamps at.past.newest (line_time s.plan at.time)) r.claims_are);
+            (same_claims s (broken_off (breaks s.stamps at.past.newest (line_time s.plan at.time)) at.past.claims)
+            (claims_before s at.past (line_time s.plan at.time)) r.heard refl refl
+            (break_claims s at.past.claims r.heard (breaks s.stamps at.past.newest (line_time s.plan at.time)) r.claims_are));
       }
 
   pub no_short : (number : ℕ) → ¬ IsShortAt s log number

@@ -12,20 +12,20 @@ use Rattle.j39_follow.specs.Who.{unit_of_name}
 use Rattle.j39_tp.specs.declared.packet.Packet.{Packet}
 use Rattle.j39_audit.specs.AuditText.{AuditPast, AuditsLines, claims_before, look_at, mark_at, noted_newly, nothing_read, past_with_frame}
 use Rattle.j39_audit.specs.Breaks.{breaks, line_time}
-use Rattle.j39_audit.specs.Claiming.{HeardClaims, Knowledge, knowledge, sender_at}
+use Rattle.j39_audit.specs.Claiming.{HeardClaims, Knowledge, knowledge, sender_at, was_asked_for}
 use Rattle.j39_audit.specs.Counting.{Noted, reported_at, occurrences_of}
-use Rattle.j39_audit.specs.Looking.{break_noted, claim_noted, claim_place, counted, frame_noted, is_above_unplanned, is_claim, is_urgent, mark_noted, message_noted, message_sent, noted_if, noted_with, request_noted, requested, sent_noted}
+use Rattle.j39_audit.specs.Looking.{break_noted, claim_noted, claim_place, counted, frame_noted, is_above_unplanned, is_claim, is_urgent, mark_noted, message_noted, message_sent, noted_if, noted_with, request_noted, requested, sent_noted, told, answers_request, answer_noted, answer_of, asked_noted, besides_noted}
 use Rattle.j39_audit.specs.SentMessages.{SentMessage, all_marked, deviation, flows_noted, is_nearest_flow, is_nearest_request, marked, noted_at, requests_noted}
 use Rattle.j39_audit.specs.Settings.{AreMoving, Settings}
 use Rattle.j39_audit.specs.declared.mark.Mark.{Mark}
 use Rattle.j39_audit.specs.declared.mark.Word.{Word}
-use Rattle.j39_audit.specs.declared.mark.Word.TheVariants.{Short, Stranger, Address, Cannot, Urgent, Seen, Unclear, Asked, Counted, Unsure, Break}
+use Rattle.j39_audit.specs.declared.mark.Word.TheVariants.{Short, Stranger, Address, Cannot, Urgent, Seen, Unclear, Asked, Counted, Unsure, Break, Answered, Answers, Besides}
 use Rattle.j39_audit.specs.declared.senders.SureSender.{SureSender}
 use Rattle.j39_audit.specs.declared.senders.SureSender.TheVariants.{Unit as OfUnit, Nobody, Unknown}
 use Rattle.j39_audit_laws.specs.FoundForSure.{ClaimsArePlanned, HasFixedUnits, UnsureIsNone}
 use Rattle.j39_audit_laws.proofs.FixedUnits.{is_sure, own_there}
 use Rattle.j39_audit_laws.proofs.Hits.{HaveWords, no_hits, words_below, words_both, words_if}
-use Rattle.j39_audit_laws.proofs.Marking.{IsDeviation, by_words, differs_so, is_of_message}
+use Rattle.j39_audit_laws.proofs.Marking.{IsDeviation, by_words, differs_so, is_of_message, told_so}
 use Rattle.j39_audit_laws.proofs.Walk.{IsNext, at_end}
 
 abbrev is_sure_word : Word → Bool
@@ -51,6 +51,16 @@ module _ (s : Settings) (k : Knowledge) (f : Frame) (packet : Option Packet) (li
       all_sure line _ (is_nearest_flow s k m) s.plan.flows.items
       (cond_both (count_by (is_nearest_flow s k m) s.plan.flows.items == 1) Seen Unclear (λ w. is_sure_word w ≡ true) (λ _. refl) (λ _. refl))
 
+  asked_sure : (m : SentMessage) → AreSure (asked_noted s k m line)
+  asked_sure m =
+      words_both is_sure_word (answer_noted line (answers_request s k m) (deviation s k m)) (besides_noted s k m line)
+      (cond_both (answers_request s k m) (answer_of line (deviation s k m)) [] AreSure (λ _. of_mark (deviation s k m)) (λ _. tt))
+      (words_if is_sure_word (noted_at line Besides 0 0) (was_asked_for s k true m.number m.source) refl)
+    where
+      of_mark : (o : Option Mark) → AreSure (answer_of line o)
+      of_mark None = tt
+      of_mark (Some d) = (refl, refl, tt)
+
   mark_sure : (m : SentMessage) (o : Option Mark) → IsDeviation m o → AreSure (mark_noted line o)
   mark_sure m None so = tt
   mark_sure m (Some d) so = (sure_message d.word so.0, tt)
@@ -58,7 +68,8 @@ module _ (s : Settings) (k : Knowledge) (f : Frame) (packet : Option Packet) (li
   message_sure : (o : Option SentMessage) → AreSure (message_noted s k line o)
   message_sure None = tt
   message_sure (Some m) =
-      words_both is_sure_word (mark_noted line (deviation s k m)) (flows_noted s k m line) (mark_sure m (deviation s k m) (differs_so s k m)) (flows_sure m)
+      words_both is_sure_word (mark_noted line (told s k m)) (flows_noted s k m line ++ asked_noted s k m line) (mark_sure m (told s k m) (told_so s k m))
+      (words_both is_sure_word (flows_noted s k m line) (asked_noted s k m line) (flows_sure m) (asked_sure m))
 
   requests_sure : (m : SentMessage) → AreSure (requests_noted s k m line)
   unfolding requests_noted

@@ -15,7 +15,7 @@ use Rattle.j39_tp.specs.declared.packet.Packet.{Packet}
 use Rattle.j39_audit.specs.AuditText.{AuditPast, AuditsLine, AuditsLines, bad_line, broadcasts_there, claims_before, counted_for, moments_with_frame, nothing_read, passed_by, past_with_frame, with_next_number, past_again, past_with_again, with_again, noted_newly}
 use Rattle.j39_audit.specs.BegunBroadcasts.{packet_with}
 use Rattle.j39_audit.specs.Breaks.{line_time}
-use Rattle.j39_audit.specs.Claiming.{HeardClaims}
+use Rattle.j39_audit.specs.Claiming.{HeardClaims, with_requests}
 use Rattle.j39_audit.specs.Looking.{IsPacketOf, noted_if}
 use Rattle.j39_audit.specs.Moments.{behind_gap, with_packet_stream}
 use Rattle.j39_audit.specs.SentMessages.{noted_at}
@@ -62,7 +62,8 @@ again_parts plan (Some one) None f is = absurd (true≢false (sym is))
 again_parts plan (Some one) (Some τ) f is = (one, τ, refl, refl)
 
 again_with : (s : Settings) (past : AuditPast) (taken : Option TakenFrame) (time : Option ℕ) (one : TakenFrame) (τ : ℕ) → taken ≡ Some one
-    → time ≡ Some τ → past_again s taken time past ≡ with_again s one.flow one.unit one.line τ past
+    → time ≡ Some τ → past_again s taken time past
+    ≡ record (with_again s one.flow one.unit one.line τ past) { claims = with_requests s.plan (Some τ) one.frame one.request past.claims }
 unfolding past_again
 again_with s past taken time one τ taken_is time_is =
     ap (λ (o : Option TakenFrame). past_again s o time past) taken_is ∙ ap (λ (o : Option ℕ). past_again s (Some one) o past) time_is
@@ -239,7 +240,7 @@ module _ (s : Settings) (log : List Line) where
     pub time : ℕ
     pub time_is : line_time s.plan at.time ≡ Some time
     pub noted_is : next.noted ≡ past.noted
-    pub claims_are : next.claims ≡ past.claims
+    pub claims_are : next.claims ≡ with_requests s.plan (Some time) taken.frame taken.request past.claims
     pub moments_are : next.moments ≡ moments_again s taken.flow time past.moments
     pub load_is : next.by_load ≡ moments_again s taken.flow time past.by_load
     pub no_frame : IsNoFrame number
@@ -324,7 +325,8 @@ module _ (s : Settings) (log : List Line) where
           again = again;
         } in
         let (taken, τ, taken_is, time_is) = again_parts s.plan past.taken (line_time s.plan time) f again in
-        let became : past_again s past.taken (line_time s.plan time) begun ≡ with_again s taken.flow taken.unit taken.line τ begun =
+        let became : past_again s past.taken (line_time s.plan time) begun
+        ≡ record (with_again s taken.flow taken.unit taken.line τ begun) { claims = with_requests s.plan (Some τ) taken.frame taken.request past.claims } =
         again_with s begun past.taken (line_time s.plan time) taken τ taken_is time_is in
         record {
           at = at;

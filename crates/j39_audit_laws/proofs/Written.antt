@@ -11,7 +11,7 @@ use Rattle.j39_audit.specs.Below.{each_below, sum_below}
 use Rattle.j39_audit.specs.Settings.{Settings}
 use Rattle.j39_audit.specs.declared.mark.Mark.{Mark}
 use Rattle.j39_audit.specs.declared.mark.Word.{Word}
-use Rattle.j39_audit.specs.declared.mark.Word.TheVariants.{Short, Stranger, Nobody as NobodyThere, Address, Cannot, Layout, NoFlow, Priority, Urgent, Seen, Unclear, Asked, Counted, Unsure, Break, NearFlow, NearRequest, SilentFlow, Deaf, NearPackets, SilentPackets, NearOrLate, SilentOrLate}
+use Rattle.j39_audit.specs.declared.mark.Word.TheVariants.{Short, Stranger, Nobody as NobodyThere, Address, Cannot, Layout, NoFlow, Priority, Urgent, Seen, Unclear, Asked, Counted, Unsure, Break, NearFlow, NearRequest, SilentFlow, Deaf, NearPackets, SilentPackets, NearOrLate, SilentOrLate, Answered, Answers, Besides}
 use Rattle.j39_audit.specs.declared.tally.Occurrences.{Occurrences}
 use Rattle.j39_audit_laws.specs.FoundForSure.{FoundAreWritten, IsWrittenIn}
 use Rattle.j39_audit_laws.specs.FoundLines.{IsAccusing, IsFoundAt, IsReportedAt}
@@ -146,6 +146,9 @@ place_of NearPackets is = absurd is
 place_of SilentPackets is = absurd is
 place_of NearOrLate is = absurd is
 place_of SilentOrLate is = absurd is
+place_of Answered is = absurd is
+place_of Answers is = absurd is
+place_of Besides is = absurd is
 
 -- what is reported at some line is reported at least once
 stated_once : (s : Settings) (log : List Line) (m : Mark) (t : Occurrences) (number : ℕ) → IsReportedAt s log m t → IsFoundAt s log number m → t.times ≢ 0

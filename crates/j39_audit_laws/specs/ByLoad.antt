@@ -12,7 +12,7 @@ use Rattle.j39_load.specs.Loads.{us_of_bits}
 use Rattle.j39_load.specs.SentFrames.{FrameSources, HasPeriodMs, Held, Single}
 use Rattle.j39_load.specs.ValuesInTime.{KeepsPause}
 use Rattle.j39_load.specs.declared.waits.delay.Delay.{Delay}
-use Rattle.j39_audit.specs.MessageStreams.{longest_us, shortest_us}
+use Rattle.j39_audit.specs.UnitTimes.{longest_us, shortest_us}
 use Rattle.j39_audit.specs.Near.{is_too_near}
 use Rattle.j39_audit.specs.Responses.{us_at_logger}
 use Rattle.j39_audit.specs.Silence.{is_silent}

@@ -4,7 +4,7 @@ use Rattle.std.specs.Option.{option_map_or}
 use Rattle.j39_network.specs.declared.plan.timing.ErrorRate.{ErrorRate}
 use Rattle.j39_network.specs.declared.plan.timing.Timing.{Timing}
 use Rattle.j39_audit.specs.Moments.{bit_us, reach_back}
-use Rattle.j39_audit.specs.MessageStreams.{longest_us, shortest_us}
+use Rattle.j39_audit.specs.UnitTimes.{longest_us, shortest_us}
 use Rattle.j39_audit_laws.specs.MarkRecords.{longest_reach}
 
 -- where clocks don't drift, times of units differ by a thousandth, and the idle mark reaches back as far as frames and damage do

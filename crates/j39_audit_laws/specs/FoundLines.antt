@@ -14,7 +14,7 @@ use Rattle.j39_audit.specs.AuditText.{AuditPast, AuditsLines, claims_before, gro
 use Rattle.j39_audit.specs.Breaks.{line_time}
 use Rattle.j39_audit.specs.Claiming.{HeardClaims, is_address_of, knowledge, sender_at}
 use Rattle.j39_audit.specs.Counting.{most_times}
-use Rattle.j39_audit.specs.Looking.{IsPacketOf, has_to_say_cannot, is_above_unplanned, is_claim, is_claiming, is_urgent, may_move_to, message_sent}
+use Rattle.j39_audit.specs.Looking.{IsPacketOf, has_to_say_cannot, is_above_unplanned, is_claim, is_claiming, is_urgent, may_move_to, message_sent, told}
 use Rattle.j39_audit.specs.SentMessages.{SentMessage, deviation}
 use Rattle.j39_audit.specs.Settings.{Settings}
 use Rattle.j39_audit.specs.declared.mark.Mark.{Mark}
@@ -95,12 +95,12 @@ HasToSayCannot s claims f u = has_to_say_cannot s (knowledge s claims) (name_in 
 abbrev pub MayMoveThere : Settings → HeardClaims → Frame → ℕ → Type 0
 MayMoveThere s claims f u = may_move_to s (knowledge s claims) (name_in f) u f.ident.sa ≡ true
 
--- a message of the unit, in one frame or announced by it, differs so from all that the plan has of the unit
+-- a message of the unit, in one frame or announced by it, differs so from all that the plan has of the unit, and answers no request
 pub record Differs (s : Settings) (claims : HeardClaims) (f : Frame) (packet : Option Packet) (m : Mark) : Type 0 where
   pub sent : IsSentFrom s claims f (OfUnit m.subject)
   pub message : SentMessage
   pub message_is : message_sent m.subject f packet ≡ Some message
-  pub differs : deviation s (knowledge s claims) message ≡ Some m
+  pub differs : told s (knowledge s claims) message ≡ Some m
 
 -- the frame is one of those that the mark is for
 abbrev pub IsAccusedAs : Settings → HeardClaims → Frame → Option Packet → Word → ℕ → ℕ → Type 0

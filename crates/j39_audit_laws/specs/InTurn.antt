@@ -4,7 +4,7 @@ use Rattle.j39_network.specs.declared.plan.timing.Timing.{Timing}
 use Rattle.j39_audit.specs.Below.{each_below}
 use Rattle.j39_audit.specs.BegunBroadcasts.{BegunBroadcasts, late_noted, with_one, with_packet}
 use Rattle.j39_audit.specs.Counting.{Noted}
-use Rattle.j39_audit.specs.MessageStreams.{longest_us}
+use Rattle.j39_audit.specs.UnitTimes.{longest_us}
 use Rattle.j39_audit.specs.Near.{excess}
 use Rattle.j39_audit.specs.declared.broadcasts.BegunBroadcast.{BegunBroadcast}
 use Rattle.j39_timing.specs.Messages.{frame_end}

@@ -22,7 +22,7 @@ use Rattle.j39_network.specs.declared.plan.unit_plan.UnitPlan.{UnitPlan}
 use Rattle.j39_follow.specs.Who.{unit_of_name}
 use Rattle.j39_tp.specs.declared.packet.Packet.{Packet}
 use Rattle.j39_audit.specs.AuditText.{AuditPast, AuditsLines, look_at, nothing_read, subject_lines}
-use Rattle.j39_audit.specs.Claiming.{HeardClaims, Knowledge, knowledge, sender_at}
+use Rattle.j39_audit.specs.Claiming.{HeardClaims, Knowledge, knowledge, sender_at, was_asked_for}
 use Rattle.j39_audit.specs.Looking.{is_claim, is_single, message_sent}
 use Rattle.j39_audit.specs.SentMessages.{SentMessage}
 use Rattle.j39_audit.specs.Settings.{Settings}
@@ -122,6 +122,12 @@ ClaimsWhereItMay s log sent u = OfItsFrames s log sent u
 abbrev pub LooksAsPlanned : Settings → List Line → SentBy → ℕ → Type 0
 LooksAsPlanned s log sent u = OfItsFrames s log sent u (λ claims f packet. (m : SentMessage) → message_sent u f packet ≡ Some m
     → IsItsNumber s.plan u m.number → IsOfFlowPlanned s.plan (knowledge s claims) m)
+
+-- or it was asked for, as the lines before it show
+abbrev pub LooksPlannedOrAsked : Settings → List Line → SentBy → ℕ → Type 0
+LooksPlannedOrAsked s log sent u = OfItsFrames s log sent u (λ claims f packet. (m : SentMessage) → message_sent u f packet ≡ Some m
+    → IsItsNumber s.plan u m.number
+    → IsOfFlowPlanned s.plan (knowledge s claims) m ⊎ (was_asked_for s (knowledge s claims) false m.number m.source ≡ true))
 
 -- a frame that is a group's by its number, or one of a long message with the priority of these or a lower one
 abbrev pub IsByThePlan : Settings → Timing → ℕ → Frame → Type 0

@@ -24,7 +24,7 @@ ghost use Rattle.j39_audit_laws.specs.KeptParts.{KeepersAreNotAccused, KeptPlans
 ghost use Rattle.j39_audit_laws.specs.KeptStreams.{SentInTimeAreNotNear, SentInTimeAreNotSilent, StreamsAreNotNear, StreamsAreNotSilent};
 ghost use Rattle.j39_audit_laws.specs.LogBounds.{IsMarkedBound, IsTimedBound, Lines};
 ghost use Rattle.j39_audit_laws.specs.OneAudit.{AuditHasOneText};
-ghost use Rattle.j39_audit_laws.specs.OwnPart.{AreItsOwn, ClaimsWhereItMay, IsNotNamed, LooksAsPlanned, SaysCannotWhereItHasTo, SentBy};
+ghost use Rattle.j39_audit_laws.specs.OwnPart.{AreItsOwn, ClaimsWhereItMay, IsNotNamed, LooksAsPlanned, LooksPlannedOrAsked, SaysCannotWhereItHasTo, SentBy};
 ghost use Rattle.j39_audit_laws.specs.OwnPart.{WaitsForPlanned};
 ghost use Rattle.j39_audit_laws.specs.MarkRecords.{AreFew, IsMarkOf, KeepsTime, ShowsIdle, longest_reach};
 ghost use Rattle.j39_audit_laws.specs.Pausing.{ComesInTime, IsBoundAt, NotesTheSilent, NotesTheSilentEnd};
@@ -90,12 +90,13 @@ pub fn who_claims_by_the_plan_is_not_accused()
 {}
 
 /// Nor does one get a line `layout`, `no_flow` or `priority` each of whose messages with a number of one of its groups
-/// is of one of its flows; nor `urgent`, where all that isn't planned has `unplanned_priority` or a larger number.
+/// is of one of its flows, or, for `no_flow`, was asked for; nor `urgent`, where all that isn't planned has `unplanned_priority`
+/// or a larger number.
 pub fn who_sends_by_the_plan_is_not_accused()
     ensures layout { (s : Settings) (log : List ALine) (sent : SentBy) (u : ℕ) → AreMoving s.plan s.moving
         → AreItsOwn s log sent u → LooksAsPlanned s log sent u → IsNotNamed s log Layout u }
     ensures no_flow { (s : Settings) (log : List ALine) (sent : SentBy) (u : ℕ) → AreMoving s.plan s.moving
-        → AreItsOwn s log sent u → LooksAsPlanned s log sent u → IsNotNamed s log NoFlow u }
+        → AreItsOwn s log sent u → LooksPlannedOrAsked s log sent u → IsNotNamed s log NoFlow u }
     ensures priority { (s : Settings) (log : List ALine) (sent : SentBy) (u : ℕ) → AreMoving s.plan s.moving
         → AreItsOwn s log sent u → LooksAsPlanned s log sent u → IsNotNamed s log Priority u }
     ensures urgent { (s : Settings) (log : List ALine) (sent : SentBy) (u : ℕ) → AreMoving s.plan s.moving

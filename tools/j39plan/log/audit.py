@@ -40,7 +40,7 @@ LINES: dict[str, list[Form]] = {
     "accused": [form_of("(?P<word>[a-z_]+)" + subject + " times {#times} first {#first}" + measure) for subject in SUBJECTS for measure in MEASURES],
     "flow": [form_of("flow {#flow} {group} {from} {to} seen {#seen} unclear {#unclear}")],
     "request": [form_of("request {#request} {group} {from} {to} seen {#seen}")],
-    "unit": [form_of("unit {unit} frames {#frames}")],
+    "unit": [form_of("unit {unit} frames {#frames}" + answers) for answers in ("", " answers {#answers}")],
     "counts": [*(form_of("frames {#frames} skipped {#skipped} bad {#bad} elsewhere {#elsewhere} unsure {#unsure} breaks {#breaks} stamps {#stamps}" + again)
                  for again in ("", " again {#again}")), form_of("deviations {#deviations}")],
 }

@@ -24,6 +24,8 @@ use Rattle.j39_audit.specs.Pauses.{unclear_behind}
 use Rattle.j39_audit.specs.declared.pauses.LastFrame.{LastFrame}
 use Rattle.j39_audit.specs.declared.pauses.Newest.{Newest}
 use Rattle.j39_audit.specs.declared.pauses.Pauses.{Pauses}
+use Rattle.j39_audit.specs.Requests.{GroupRequests}
+use Rattle.j39_audit.specs.declared.requests.Requests.{Requests as KeptRequests}
 use Rattle.j39_audit.specs.declared.senders.SureSender.{SureSender}
 use Rattle.j39_audit.specs.declared.senders.SureSender.TheVariants.{Unit as OfUnit, Nobody, Unknown}
 use Rattle.j39_audit.specs.declared.tally.MarkTally.{MarkTally}
@@ -143,8 +145,25 @@ row_bytes = 256
 abbrev pub claimed_in : Known → ℕ → ℕ → Bool
 claimed_in known u a = nat_lt a row_bytes && slice_index_or known.claimed.items (u * row_bytes + a) false
 
+-- ---- requests
+
+abbrev pub requests_in : KeptRequests → GroupRequests
+requests_in kept = record { ever = earliest_in kept.ever; newest = earliest_in kept.newest }
+
+-- what was asked for is kept
+pub record RecallsRequests (kept : KeptRequests) (r : GroupRequests) : Type 0 where
+  pub ever : (key : Key) → earliest_in kept.ever key ≡ r.ever key
+  pub newest : (key : Key) → earliest_in kept.newest key ≡ r.newest key
+
 abbrev pub known_by : Known → Knowledge
-known_by known = record { last = last_in known; taken = taken_in known; least = least_in known; claimed = claimed_in known }
+known_by known = record {
+  last = last_in known;
+  taken = taken_in known;
+  least = least_in known;
+  claimed = claimed_in known;
+  requests = requests_in known.requests;
+  time = known.requests.time;
+}
 
 -- what these claims report is known
 pub record KnowsClaims (s : Settings) (known : Known) (claims : HeardClaims) : Type 0 where
@@ -156,6 +175,8 @@ pub record KnowsClaims (s : Settings) (known : Known) (claims : HeardClaims) : T
   pub taken : (a : ℕ) → taken_in known a ≡ (knowledge s claims).taken a
   pub least : (a : ℕ) → least_in known a ≡ (knowledge s claims).least a
   pub claimed : (u a : ℕ) → claimed_in known u a ≡ (knowledge s claims).claimed u a
+  pub requests : RecallsRequests known.requests claims.requests
+  pub time : known.requests.time ≡ claims.time
 
 abbrev pub IsWithinUnits : Plan → SureSender → Type 0
 IsWithinUnits plan (OfUnit u) = u < length plan.units.items
@@ -167,6 +188,7 @@ IsWithinUnits plan Unknown = Unit {0}
 abbrev pub sent_as : UnitMessage → SentMessage
 sent_as m = record {
   unit = m.unit;
+  source = m.source;
   number = m.number;
   destination = m.destination;
   unaddressed = m.unaddressed;

@@ -11,7 +11,7 @@ pub returns-clause-again : goal.returns-clause-again
 returns-clause-again c =
     IfOk-weaker c.keep_interface.result _ _
     (λ _ kept. λ past recalls.
-    let took = c.take_taken.ensures.again past recalls in
+    let took = c.in_ok-take_taken.ensures.again past recalls in
     let s = settings_of c.take_taken.new.self.basis in
     let named : Option (List ℕ) = option_copied c.args.named in
     record {

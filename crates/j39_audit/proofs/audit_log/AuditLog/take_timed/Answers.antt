@@ -1,5 +1,6 @@
 use Rattle.std.proofs.Common.{◌≡◌, ◌++◌, ℕ, Bool, List, Option, Some, None, refl, sym, ap, subst, ◌∙◌}
 use Rattle.std.specs.Prelude.{IfNone, IfSome}
+use Rattle.std.proofs.lemmas.Result.{IfOk-weaker}
 use Rattle.j39_id.specs.declared.frame.Frame.{Frame}
 use Rattle.j39_log.specs.LogFrames.{IsPacket}
 use Rattle.j39_tp.specs.Packets.{InRange}
@@ -8,7 +9,7 @@ use Rattle.j39_audit.specs.Asking.{asked_behind, asking_behind}
 use Rattle.j39_audit.specs.AuditText.{AuditPast, claims_before, claims_with_frame, gap_before, past_with_frame}
 use Rattle.j39_audit.specs.BegunBroadcasts.{broadcasts_before}
 use Rattle.j39_audit.specs.Breaks.{breaks, newest_behind}
-use Rattle.j39_audit.specs.Claiming.{Knowledge, broken_off, knowledge}
+use Rattle.j39_audit.specs.Claiming.{HeardClaims, Knowledge, broken_off, come_to, knowledge, with_requests}
 use Rattle.j39_audit.specs.Counting.{Noted}
 use Rattle.j39_audit.specs.Gaps.{ends_gap}
 use Rattle.j39_audit.specs.Looking.{IsPacketOf, break_noted, frame_noted}
@@ -32,7 +33,9 @@ packet_of f (Some p) some none = some.0
 
 pub returns-clause-frame : goal.returns-clause-frame
 unfolding past_with_frame asking_behind
-returns-clause-frame c = λ past named accords number.
+returns-clause-frame c =
+    IfOk-weaker c.take_request.result _ _
+    (λ _ asked. λ past named accords number.
     let s = settings_of c.args.self.now.basis in
     let time = c.args.time in
     let f = c.args.frame.now in
@@ -45,8 +48,8 @@ returns-clause-frame c = λ past named accords number.
     ∙ ap (λ (n : Option ℕ). ends_gap s.stamps s.quiet n c.args.self.now.before time) accords.newest_is
     ∙ ap (λ (b : Option ℕ). ends_gap s.stamps s.quiet past.newest b time) accords.before_is in
     let before = claims_before s past time in
-    let known = subst (λ (b : Bool). KnowsClaims s c.take_break.new.known (broken_off b past.claims)) broken
-    (c.take_break.ensures.known past.claims accords.knows) in
+    let known = subst (λ (x : HeardClaims). KnowsClaims s c.come_to.new.self x) (λ i. come_to (anew i) time (broken_off (broken i) past.claims))
+    (c.come_to.ensures (broken_off c.breaks-broken.result past.claims) (c.take_break.ensures.known past.claims accords.knows)) in
     let took = c.in_ok-take_frame.ensures before known in
     let number_now = c.args.self.now.number in
     let clean = c.look_at_next.new.self in
@@ -55,7 +58,7 @@ returns-clause-frame c = λ past named accords number.
     let lines : ℕ → List Noted = λ n. break_noted n (breaks s.stamps past.newest time) ++ frame_noted s before f packet n in
     let sights = both.sights ∙ ap (λ (w : Sighting). sighted_behind w (lines number_now)) c.look_at_next.ensures.nothing in
     let unclear = both.unclear ∙ ap (λ (ns : List ℕ). unclear_behind ns (lines number_now)) c.look_at_next.ensures.clear in
-    let same_known : _ ≡ knowledge s before = known_knowledge s c.take_break.new.known before known in
+    let same_known : _ ≡ knowledge s before = known_knowledge s c.come_to.new.self before known in
     let ending : c.ending_of-ending.result ≡ ending_of s (knowledge s before) f = c.ending_of-ending.ensures
     ∙ ap (λ (k : Knowledge). ending_of s k f) same_known in
     let known_behind = known_knowledge s c.take_frame.new.known (claims_with_frame s past time f) took.0 in
@@ -70,16 +73,22 @@ returns-clause-frame c = λ past named accords number.
       moments = accords.moments;
       by_load = accords.by_load;
       asking = c.take.ensures past.asking accords.asking;
-      broadcasts = c.come_to.ensures past.broadcasts accords.broadcasts;
+      broadcasts = c.come_to-2.ensures past.broadcasts accords.broadcasts;
     }) sights unclear in
     let are = subst (λ (p : AuditPast). RecallsTimes s c.take_times.new.self p)
     (λ i. times (same_known i) (known_behind i) (gap i) (anew i) (ending i) (c.announcement_in-announced.ensures i) (number i)) took_times in
-    subst (λ (log : AuditLog). FollowsNewFrame log past time named f) (sym c.take_times.ensures.kept)
-    (record {
+    let kept = sym c.take_times.ensures.kept in
+    let heard = claims_with_frame s past time f in
+    let last = c.take_request.new.self in
+    let requested = sights ∙ ap (λ (n : ℕ). sighted_behind nothing_sighted (lines n)) number in
+    let is_asked = asked heard (subst (λ (log : AuditLog). KnowsClaims (settings_of log.basis) log.known heard) kept took.0) in
+    subst (λ (log : AuditLog). KnowsClaims (settings_of log.basis) last (with_requests log.basis.plan.now time f log.tally.sighting.request heard)
+    → FollowsNewFrame (record log { known = last }) past time named f) kept
+    (λ knows. record {
       packet = packet;
       packet_is = packet_of f packet c.transport_packet-packet.ensures.found c.transport_packet-packet.ensures.none;
       follows = record {
-        knows = took.0;
+        knows = subst (λ (w : Sighting). KnowsClaims s last (with_requests s.plan time f w.request heard)) requested knows;
         counted = subst (λ (n : ℕ). AreCounted c.take_frame.new.tally (past.noted ++ lines n)) number
             (both.counts past.noted (counted_on c.args.self.now.tally clean past.noted c.look_at_next.ensures.found accords.counted));
         newest_is = c.newest_behind-self.ensures ∙ ap (λ (n : Option ℕ). newest_behind s.stamps n time) accords.newest_is;
@@ -89,5 +98,6 @@ returns-clause-frame c = λ past named accords number.
         asking = are.asking;
         broadcasts = are.broadcasts;
       };
-      sights = sights ∙ ap (λ (n : ℕ). sighted_behind nothing_sighted (lines n)) number;
-    })
+      sights = requested;
+    }) is_asked)
+    c.take_request.ensures

@@ -8,6 +8,7 @@ invariant-loop-unit l = record {
   taken : l.self.taken ≡ l.fn.self.taken;
   least : l.self.least ≡ l.fn.self.least;
   claimed : l.self.claimed ≡ l.fn.self.claimed;
+  requests : l.self.requests ≡ l.fn.self.requests;
   size : length l.self.last.items ≡ length l.fn.self.last.items;
   before : (u : ℕ) → u < l.unit → last_in l.self u ≡ (if moves (settings_of l.basis) u then None else last_in l.fn.self u);
   behind : (u : ℕ) → l.unit ≤ u → last_in l.self u ≡ last_in l.fn.self u;

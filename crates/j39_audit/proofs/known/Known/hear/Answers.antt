@@ -4,7 +4,8 @@ use Rattle.std.proofs.lemmas.Bool.{cases_eq}
 use Rattle.j39_audit.specs.Claiming.{smaller_name, with_claim}
 use Rattle.j39_audit.specs.Settings.{moves}
 use Rattle.j39_audit.specs.inside.Recalling.{KnowsClaims, last_in, least_in, settings_of, taken_in}
-use Rattle.j39_audit.proofs.Knowing.{claimed_more, claimed_same, heard_here, heard_least, heard_none, heard_other, taken_here, taken_other}
+use Rattle.j39_audit.specs.declared.requests.Requests.{Requests}
+use Rattle.j39_audit.proofs.Knowing.{claimed_more, claimed_same, heard_here, heard_least, heard_none, heard_other, taken_here, taken_other, still_requested}
 use Rattle.j39_audit.proofs.known.Known.hear.Goals as goal
 
 pub returns-in-Some : goal.returns-in-Some
@@ -50,6 +51,8 @@ returns-in-Some c = λ claims knows.
         λ i other. claimed.others i other ∙ ap (λ (t : Vec Bool Global). slice_index_or t.items i false) (reported_in.claimed ∙ named.claimed),
       )
           (knows.claimed u a);
+      requests = still_requested c.args.self.now.requests new.requests claims.requests (claimed.requests ∙ reported_in.requests ∙ named.requests) knows.requests;
+      time = ap (λ (r : Requests). r.time) (claimed.requests ∙ reported_in.requests ∙ named.requests) ∙ knows.time;
     })
 
 pub returns-in-None : goal.returns-in-None
@@ -85,4 +88,6 @@ returns-in-None c = λ claims knows.
           (λ same. subst (λ (b : ℕ). least_in old b ≡ Some (smaller_name name (least_in c.args.self.now b))) same (named.here knows.least_size)) (knows.least a);
       claimed = λ u a. claimed_same u a source name claims.all _
           (ap (λ (t : Vec Bool Global). nat_lt a 256 && slice_index_or t.items (u * 256 + a) false) claimed ∙ knows.claimed u a);
+      requests = still_requested c.args.self.now.requests new.requests claims.requests (reported_in.requests ∙ named.requests) knows.requests;
+      time = ap (λ (r : Requests). r.time) (reported_in.requests ∙ named.requests) ∙ knows.time;
     })

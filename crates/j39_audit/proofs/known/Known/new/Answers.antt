@@ -18,4 +18,6 @@ returns c =
       taken = λ a. none_taken a _ (c.in_ok-taken.ensures.none a);
       least = λ a. none_named a _ (c.in_ok-least.ensures.none a);
       claimed = λ u a. none_claimed u a _ (c.in_ok-claimed.ensures.none (u * 256 + a));
+      requests = record { ever = c.new.ensures.ever; newest = c.new.ensures.newest };
+      time = c.new.ensures.time;
     }

@@ -14,7 +14,7 @@ returns-clause-moments c = λ m recalls.
     let new = c.take_counted.new.self in
     let ended : ℕ → Moments = λ n. with_deviating s w.deviating w.unit (listed_pauses_ended s t seen.unclear.now (length seen.unclear.now)
     (with_ending s t seen.ending (with_moment s t c.args.gap n c.args.time m))) in
-    let next : Option MessageStream → ℕ → Moments = λ o n. with_counted s w.unit c.args.line (with_stream s c.args.time c.args.line o (ended n)) in
+    let next : Option MessageStream → ℕ → Moments = λ o n. with_counted s w.unit c.args.line (with_stream s c.args.time c.args.line w.besides o (ended n)) in
     subst (λ (n : ℕ). RecallsMoments new (next (sighted_stream s t c.args.frame.now w.flow w.request) n)) c.len.ensures.value
     (subst (λ (o : Option MessageStream). RecallsMoments new (next o c.len.result)) c.sighted_stream-stream.ensures.value
     (c.take_counted.ensures.moments _ (c.in_ok-take_stream.ensures.moments (ended c.len.result)
