@@ -1,4 +1,5 @@
-//! All that is known of one plan by itself, found once for every command that asks: its findings, its loads, its delays.
+//! All that is known of one plan by itself, found once for every command that asks: its findings, its loads, its
+//! delays.
 #![tactic(auto)]
 
 mod plan_answer;

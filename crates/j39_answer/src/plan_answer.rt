@@ -1,7 +1,8 @@
 //! What is wrong with a plan, what it asks of its bus, and how long its messages take.
 ghost use Rattle.std.specs.Prelude.{◌≡◌, ◌+◌, length, IfOk, Option};
 ghost use Rattle.std.specs.List.{list_all};
-ghost use Rattle.j39_answer.specs.PlanAnswers.{IsBusAnswer, IsPlanAnswer, are_of_times, delays_in, is_of_times, load_findings_in};
+ghost use Rattle.j39_answer.specs.PlanAnswers.{IsBusAnswer, IsPlanAnswer, are_of_times, delays_in, is_of_times};
+ghost use Rattle.j39_answer.specs.PlanAnswers.{load_findings_in};
 ghost use Rattle.j39_load.specs.BusTimes.{timing_of};
 ghost use Rattle.j39_load.specs.LoadFindings.{load_finding_number};
 

@@ -25,7 +25,8 @@ module _ {W : Type 0} {most : Limits} {old new : SourceState} {state : W → Sin
     (breaks : HasFailed old.failures new.failures → IsBroken) (r : Result Verdict Fault) where
   ends_where : (b : Bool) → is_hindered plan ≡ b → (b ≡ true → PutsText (IsReport plan) state start ended r)
       → (b ≡ false → AnswersWhole (IsAudit plan part stamps quiet) (IsOfAny (IsAudit plan part stamps quiet)) most old new state start ended r)
-      → Ends (IsAuditOf part stamps quiet plan known) (IsOfSome (IsAuditOf part stamps quiet plan known)) (Unit {0}) (MayBeTooLong most known) IsBroken state start ended r
+      → Ends (IsAuditOf part stamps quiet plan known) (IsOfSome (IsAuditOf part stamps quiet plan known)) (Unit {0})
+      (MayBeTooLong most known) IsBroken state start ended r
   ends_where true is puts answers =
       ends_said {IsOther = IsAuditOf part stamps quiet plan known} (λ text verdict report. inl (is, report)) r
       (put_ends (λ text verdict report. (verdict, inl (is, report))) r (puts refl))
@@ -36,5 +37,6 @@ module _ {W : Type 0} {most : Limits} {old new : SourceState} {state : W → Sin
 
   pub audit_ends : (is_hindered plan ≡ true → PutsText (IsReport plan) state start ended r)
       → (is_hindered plan ≡ false → AnswersWhole (IsAudit plan part stamps quiet) (IsOfAny (IsAudit plan part stamps quiet)) most old new state start ended r)
-      → Ends (IsAuditOf part stamps quiet plan known) (IsOfSome (IsAuditOf part stamps quiet plan known)) (Unit {0}) (MayBeTooLong most known) IsBroken state start ended r
+      → Ends (IsAuditOf part stamps quiet plan known) (IsOfSome (IsAuditOf part stamps quiet plan known)) (Unit {0})
+      (MayBeTooLong most known) IsBroken state start ended r
   audit_ends = ends_where (is_hindered plan) refl

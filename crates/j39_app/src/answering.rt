@@ -19,7 +19,8 @@ use std::alloc::Global;
 // stack below all of them.
 #[inline(never)]
 fn input_by<S: Source, W: Sink>(alloc: Global, input: &mut S, sink: &mut W) -> CommandResult
-    ensures { AnswersWhole IsInputText (IsOfAny IsInputText) plan_limits (S.state input.old) (S.state input.new) W.state sink.old sink.new result }
+    ensures { AnswersWhole IsInputText (IsOfAny IsInputText) plan_limits (S.state input.old)
+        (S.state input.new) W.state sink.old sink.new result }
 {
     input_text(alloc, input, sink)
 }
@@ -35,10 +36,12 @@ pub fn answer<F: Folder, S: Source, W: Sink>(
 ) -> CommandResult
     ensures ends { Ends (IsAnswer (F.bytes_of files.now) (S.state input.old).left order.now)
         (IsOfSome (IsFrontAnswer (F.bytes_of files.now) (S.state input.old).left order.now)) (PutsAtOnce order.now)
-        (IsOfRead (MayBeTooLong plan_limits (S.state input.old).left) (λ limits name. MayBeTooLong limits (F.bytes_of files.now name)) (F.bytes_of files.now)
+        (IsOfRead (MayBeTooLong plan_limits (S.state input.old).left)
+        (λ limits name. MayBeTooLong limits (F.bytes_of files.now name)) (F.bytes_of files.now)
         order.now)
         (IsOfRead (HasFailed (S.state input.old).failures (S.state input.new).failures)
-        (λ _ name. HasFileFailed (F.stays_shut files.now) (F.bytes_of files.now) F.File.state name) (F.bytes_of files.now) order.now)
+        (λ _ name. HasFileFailed (F.stays_shut files.now) (F.bytes_of files.now) F.File.state name)
+        (F.bytes_of files.now) order.now)
         W.state sink.old sink.new result }
     ensures calm { OnOk result ((S.state input.new).failures ≡ (S.state input.old).failures) }
     ensures memory { IsErrOf result Fault.Memory → AsksForMemory order.now }

@@ -36,7 +36,8 @@ fn plan_named<F: Folder, W: Sink>(
     name: &str,
     sink: &mut W,
 ) -> Result<Option<Plan>, Fault>
-    ensures ends { EndsByFile (IsOfBytes (IsBusPlanText label.now.bytes)) (IsRefusedBusOf label.now.bytes) (Unit {0}) plan_limits
+    ensures ends { EndsByFile (IsOfBytes (IsBusPlanText label.now.bytes)) (IsRefusedBusOf label.now.bytes)
+        (Unit {0}) plan_limits
         (F.stays_shut files.now) (F.bytes_of files.now) F.File.state name.now W.state sink.old sink.new result }
     ensures writes_nothing { IfOk result (λ plan. OnSome plan (sink.new ≡ sink.old)) }
 {
@@ -51,7 +52,8 @@ fn plan_of_bus<F: Folder, W: Sink>(
     table: &BusTable,
     sink: &mut W,
 ) -> Result<Option<Plan>, Fault>
-    ensures ends { EndsByBus (F.stays_shut files.now) (F.bytes_of files.now) F.File.state vehicle.now table.now W.state sink.old sink.new result }
+    ensures ends { EndsByBus (F.stays_shut files.now)
+        (F.bytes_of files.now) F.File.state vehicle.now table.now W.state sink.old sink.new result }
     ensures writes_nothing { IfOk result (λ plan. OnSome plan (sink.new ≡ sink.old)) }
 {
     let name = plan_file(alloc, vehicle, table.plan.as_str())?;
@@ -75,7 +77,8 @@ fn buses_of<F: Folder, W: Sink>(
     tables: &[BusTable],
     sink: &mut W,
 ) -> Result<Option<Vec<BusPlan>>, Fault>
-    ensures ends { EndsByBuses (F.stays_shut files.now) (F.bytes_of files.now) F.File.state vehicle.now tables.now W.state sink.old sink.new result }
+    ensures ends { EndsByBuses (F.stays_shut files.now)
+        (F.bytes_of files.now) F.File.state vehicle.now tables.now W.state sink.old sink.new result }
     ensures writes_nothing { IfOk result (λ buses. OnSome buses (sink.new ≡ sink.old)) }
     ensures count { IfOk result (λ found. IfSome found (λ buses. length buses.items ≡ length tables.now)) }
 {
@@ -111,7 +114,8 @@ fn vehicle_with<F: Folder, W: Sink>(
     file: &VehicleFile,
     sink: &mut W,
 ) -> CommandResult
-    ensures { EndsByPlans (F.stays_shut files.now) (F.bytes_of files.now) F.File.state vehicle.now file.now W.state sink.old sink.new result }
+    ensures { EndsByPlans (F.stays_shut files.now)
+        (F.bytes_of files.now) F.File.state vehicle.now file.now W.state sink.old sink.new result }
 {
     match buses_of(alloc, files, vehicle, &file.buses, sink)? {
         Some(buses) => vehicle_by(alloc, file, buses, sink),
@@ -127,7 +131,8 @@ pub(super) fn vehicle_files<F: Folder, W: Sink>(
     vehicle: &str,
     sink: &mut W,
 ) -> CommandResult
-    ensures { EndsByVehicle (F.stays_shut files.now) (F.bytes_of files.now) F.File.state vehicle.now W.state sink.old sink.new result }
+    ensures { EndsByVehicle (F.stays_shut files.now)
+        (F.bytes_of files.now) F.File.state vehicle.now W.state sink.old sink.new result }
 {
     match vehicle_of(alloc, files, vehicle, sink)? {
         Some(file) => vehicle_with(alloc, files, vehicle, &file, sink),

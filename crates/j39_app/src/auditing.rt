@@ -51,7 +51,8 @@ pub fn audit_planned<S: Source, W: Sink>(
 ) -> CommandResult
     ensures hindered { is_hindered plan.now ≡ true → PutsText (IsReport plan.now) W.state sink.old sink.new result }
     ensures unread { is_hindered plan.now ≡ true → log.new ≡ log.old }
-    ensures audited { is_hindered plan.now ≡ false → AnswersWhole (IsAudit plan.now part stamps quiet) (IsOfAny (IsAudit plan.now part stamps quiet)) log_limits
+    ensures audited { is_hindered plan.now ≡ false → AnswersWhole (IsAudit plan.now part stamps quiet)
+        (IsOfAny (IsAudit plan.now part stamps quiet)) log_limits
         (S.state log.old) (S.state log.new) W.state sink.old sink.new result }
 {
     let findings = check(alloc, plan)?;

@@ -39,8 +39,10 @@ fn write_by_plan<S: Source, W: Sink>(
     sink: &mut W,
 ) -> CommandResult
     ensures { (known : Option (List ℕ)) → AreLeft known (S.state file.old).left
-        → Ends (IsTextByPlan command plan.now known) (IsOfSome (IsFrontByPlan command plan.now known)) (PutsByPlan command)
-        (MayBeTooLong (limits_by_plan command) known) (HasFailed (S.state file.old).failures (S.state file.new).failures)
+        → Ends (IsTextByPlan command plan.now known) (IsOfSome (IsFrontByPlan command plan.now known))
+        (PutsByPlan command)
+        (MayBeTooLong (limits_by_plan command) known)
+        (HasFailed (S.state file.old).failures (S.state file.new).failures)
         W.state sink.old sink.new result }
 {
     match command {
@@ -77,8 +79,10 @@ fn by_line<F: Folder, W: Sink>(
     name: &str,
     sink: &mut W,
 ) -> CommandResult
-    ensures { EndsByFile (IsForOnePlan (IsTextByPlan command) line.now) (λ known. IsOfSome (IsForOnePlan (IsFrontByPlan command) line.now known))
-        (PutsByPlan command) (limits_by_plan command) (F.stays_shut files.now) (F.bytes_of files.now) F.File.state name.now W.state sink.old sink.new result }
+    ensures { EndsByFile (IsForOnePlan (IsTextByPlan command) line.now)
+        (λ known. IsOfSome (IsForOnePlan (IsFrontByPlan command) line.now known))
+        (PutsByPlan command) (limits_by_plan command) (F.stays_shut files.now)
+        (F.bytes_of files.now) F.File.state name.now W.state sink.old sink.new result }
 {
     let mut file = files.open(name)?;
     if line.has_choices() {
@@ -97,8 +101,10 @@ pub(crate) fn by_two<F: Folder, W: Sink>(
     other: &str,
     sink: &mut W,
 ) -> CommandResult
-    ensures { EndsByTwo (IsForOnePlan (IsTextByPlan command)) (IsForOnePlan (IsFrontByPlan command)) (PutsByPlan command) (limits_by_plan command)
-        (F.stays_shut files.now) (F.bytes_of files.now) F.File.state plan.now other.now W.state sink.old sink.new result }
+    ensures { EndsByTwo (IsForOnePlan (IsTextByPlan command)) (IsForOnePlan (IsFrontByPlan command))
+        (PutsByPlan command) (limits_by_plan command)
+        (F.stays_shut files.now)
+        (F.bytes_of files.now) F.File.state plan.now other.now W.state sink.old sink.new result }
 {
     match line_of(alloc, files, plan, sink)? {
         Some(line) => by_line(alloc, files, command, &line, other, sink),

@@ -53,7 +53,8 @@ pub(crate) fn of_plan_file<F: Folder, W: Sink>(
     plan: &str,
     sink: &mut W,
 ) -> CommandResult
-    ensures { EndsByFile (IsOfBytes (IsTextOfPlan command.entry)) (λ known. IsOfSome (IsOfBytes (IsTextOfPlan command.entry) known)) (Unit {0}) plan_limits
+    ensures { EndsByFile (IsOfBytes (IsTextOfPlan command.entry))
+        (λ known. IsOfSome (IsOfBytes (IsTextOfPlan command.entry) known)) (Unit {0}) plan_limits
         (F.stays_shut files.now) (F.bytes_of files.now) F.File.state plan.now W.state sink.old sink.new result }
 {
     write_of_plan(alloc, command, &mut files.open(plan)?, sink)

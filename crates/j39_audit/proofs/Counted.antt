@@ -1,12 +1,14 @@
 -- What is counted, with one mark more.
-use Rattle.std.proofs.Common.{◌≡◌, ◌≢◌, ℕ, min, ◌+◌, ◌==◌, ◌&&◌, ◌++◌, ◌∷◌, [], List, Bool, true, false, cond, nat_eq, length, refl, sym, ap, ◌∙◌, arith, eqb-true, Option, Some}
+use Rattle.std.proofs.Common.{◌≡◌, ◌≢◌, ℕ, min, ◌+◌, ◌==◌, ◌&&◌, ◌++◌, ◌∷◌, [], List, Bool, true, false, cond, nat_eq, length, refl, sym, ap, ◌∙◌, arith}
+use Rattle.std.proofs.Common.{eqb-true, Option, Some}
 use Rattle.std.specs.Prelude.{unwrap_or}
 use Rattle.std.proofs.lemmas.List.Elements.{filter-append}
 use Rattle.std.proofs.lemmas.List.{append-nil, length_push}
 use Rattle.std.specs.List.{filter}
 use Rattle.std.proofs.lemmas.Bool.{ne_eqb}
 use Rattle.std.specs.HashMap.{get}
-use Rattle.j39_audit.specs.Counting.{Greatest, Key, Noted, greater, greatest_behind, is_same_key, key_of, most_times, never, reported_at, reported_by, reported_more, occurrences_of}
+use Rattle.j39_audit.specs.Counting.{Greatest, Key, Noted, greater, greatest_behind, is_same_key, key_of, most_times, never, reported_at, reported_by}
+use Rattle.j39_audit.specs.Counting.{reported_more, occurrences_of}
 use Rattle.j39_audit.specs.declared.tally.MarkTally.{MarkTally}
 use Rattle.j39_audit.specs.inside.Recalling.{AreCounted}
 use Rattle.j39_audit.specs.declared.tally.Occurrences.{Occurrences}

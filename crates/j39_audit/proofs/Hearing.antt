@@ -1,5 +1,6 @@
 -- Lines of a log, one after another.
-use Rattle.std.proofs.Common.{◌≡◌, ◌<◌, ◌≤◌, ◌+◌, ◌++◌, ◌∷◌, [], ℕ, Bool, true, false, List, Bor, Option, Some, None, Vec, Global, inl, inr, refl, ap, subst, ◌∙◌, arith}
+use Rattle.std.proofs.Common.{◌≡◌, ◌<◌, ◌≤◌, ◌+◌, ◌++◌, ◌∷◌, [], ℕ, Bool, true, false, List, Bor, Option, Some, None, Vec, Global, inl, inr, refl, ap, subst}
+use Rattle.std.proofs.Common.{◌∙◌, arith}
 use Rattle.std.specs.Prelude.{IfNone, IfSome}
 use Rattle.std.specs.Option.{option_copied}
 use Rattle.j39_follow.specs.LogLines.{IsElsewhere, IsInterface, IsReadPart}
@@ -41,7 +42,8 @@ again_number s past None time = refl
 again_number s past (Some one) None = refl
 again_number s past (Some one) (Some time) = refl
 
-pub again_interface : (s : Settings) (past : AuditPast) (taken : Option TakenFrame) (time : Option ℕ) → (past_again s taken time past).interface ≡ past.interface
+pub again_interface : (s : Settings) (past : AuditPast) (taken : Option TakenFrame) (time : Option ℕ)
+    → (past_again s taken time past).interface ≡ past.interface
 unfolding past_again
 again_interface s past None time = refl
 again_interface s past (Some one) None = refl
@@ -70,7 +72,8 @@ within_line old new most more less line within = record {
 }
 
 -- the number of a line, its interface, the frame before and the counts are no part of what is followed
-pub follows_still : (log : AuditLog) (past : AuditPast) {number n f k b e again a : ℕ} {interface : Option (Vec ℕ Global)} {counts : LineCounts} {i : Option (List ℕ)}
+pub follows_still : (log : AuditLog) (past : AuditPast) {number n f k b e again a : ℕ} {interface : Option (Vec ℕ Global)} {counts : LineCounts}
+    {i : Option (List ℕ)}
     {taken t : Option TakenFrame} → AccordsWith log past
     → AccordsWith (record log { number = number; interface = interface; counts = counts; taken = taken; again = again }) (record past {
       number = n;

@@ -1,5 +1,6 @@
 -- What is known of units and addresses, behind a break and behind a claim.
-use Rattle.std.proofs.Common.{◌≡◌, ◌≢◌, ◌+◌, ◌*◌, ◌<◌, ◌≤◌, ◌==◌, ◌&&◌, ◌||◌, ℕ, List, [], ◌∷◌, Bool, true, false, cond, Option, Some, None, refl, sym, ap, subst, arith, ◌∙◌, inl, inr, eq-eqb}
+use Rattle.std.proofs.Common.{◌≡◌, ◌≢◌, ◌+◌, ◌*◌, ◌<◌, ◌≤◌, ◌==◌, ◌&&◌, ◌||◌, ℕ, List, [], ◌∷◌, Bool, true, false, cond, Option, Some, None, refl, sym, ap}
+use Rattle.std.proofs.Common.{subst, arith, ◌∙◌, inl, inr, eq-eqb}
 use Rattle.std.specs.Prelude.{is_none, nat_lt, slice_index_or}
 use Rattle.std.specs.List.{list_any}
 use Rattle.std.proofs.lemmas.Bool.{cases_eq, cases_lt, le-ltb, lt-ltb, ne_eqb}
@@ -50,7 +51,8 @@ forgot_past false new old same none = same
 -- of this unit
 pub heard_here : (part moves : Bool) (u v source name : ℕ) (all recent : List Heard) (new old : Option ℕ) → v ≡ u → (part ≡ true → new ≡ old)
     → (part ≡ false → new ≡ Some source) → old ≡ cond part None (newest_of u (cond moves recent all))
-    → new ≡ cond part None (newest_of u (cond moves (record { unit = Some v; source = source; name = name } ∷ recent) (record { unit = Some v; source = source; name = name } ∷ all)))
+    → new ≡ cond part None (newest_of u (cond moves (record { unit = Some v; source = source; name = name } ∷ recent)
+    (record { unit = Some v; source = source; name = name } ∷ all)))
 unfolding newest_of
 heard_here true moves u v source name all recent new old same none here was = none refl ∙ was
 heard_here false true u v source name all recent new old same none here was = rw (eq-eqb v u same) (here refl)
@@ -59,7 +61,8 @@ heard_here false false u v source name all recent new old same none here was = r
 -- of another one
 pub heard_other : (part moves : Bool) (u v source name : ℕ) (all recent : List Heard) (new old : Option ℕ) → v ≢ u → new ≡ old
     → old ≡ cond part None (newest_of u (cond moves recent all))
-    → new ≡ cond part None (newest_of u (cond moves (record { unit = Some v; source = source; name = name } ∷ recent) (record { unit = Some v; source = source; name = name } ∷ all)))
+    → new ≡ cond part None (newest_of u (cond moves (record { unit = Some v; source = source; name = name } ∷ recent)
+    (record { unit = Some v; source = source; name = name } ∷ all)))
 unfolding newest_of
 heard_other true moves u v source name all recent new old apart same was = same ∙ was
 heard_other false true u v source name all recent new old apart same was = rw (ne_eqb v u apart) (same ∙ was)
@@ -68,7 +71,8 @@ heard_other false false u v source name all recent new old apart same was = rw (
 -- of no unit
 pub heard_none : (part moves : Bool) (u source name : ℕ) (all recent : List Heard) (new old : Option ℕ) → new ≡ old
     → old ≡ cond part None (newest_of u (cond moves recent all))
-    → new ≡ cond part None (newest_of u (cond moves (record { unit = None; source = source; name = name } ∷ recent) (record { unit = None; source = source; name = name } ∷ all)))
+    → new ≡ cond part None (newest_of u (cond moves (record { unit = None; source = source; name = name } ∷ recent)
+    (record { unit = None; source = source; name = name } ∷ all)))
 unfolding newest_of
 heard_none true moves u source name all recent new old same was = same ∙ was
 heard_none false true u source name all recent new old same was = same ∙ was

@@ -1,5 +1,6 @@
 -- What is kept of pauses, with one more, and where they end.
-use Rattle.std.proofs.Common.{◌≡◌, ℕ, zero, suc, ◌+◌, ◌<◌, ◌==◌, ◌++◌, List, Bool, true, false, cond, Option, Some, None, length, refl, sym, ap, ◌∙◌, add-one, inl, inr, eq-eqb}
+use Rattle.std.proofs.Common.{◌≡◌, ℕ, zero, suc, ◌+◌, ◌<◌, ◌==◌, ◌++◌, List, Bool, true, false, cond, Option, Some, None, length, refl, sym, ap, ◌∙◌, add-one}
+use Rattle.std.proofs.Common.{inl, inr, eq-eqb}
 use Rattle.std.specs.Prelude.{is_some, slice_index_or}
 use Rattle.std.proofs.lemmas.Bool.{cases_eq, cases_Bool, ne_eqb, true≢false}
 use Rattle.std.proofs.lemmas.List.{append-nil}

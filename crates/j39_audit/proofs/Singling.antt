@@ -1,5 +1,6 @@
 -- The only place of a list at which a test passes: with one more place, of the nearest, and what is noted there.
-use Rattle.std.proofs.Common.{◌≡◌, ℕ, suc, ◌+◌, ◌<◌, ◌==◌, ◌&&◌, ◌||◌, ◌++◌, ◌∷◌, not, cond, [], List, Bool, true, false, Some, get_or, length, take, refl, sym, ap, subst, ◌∙◌, arith, eq-eqb}
+use Rattle.std.proofs.Common.{◌≡◌, ℕ, suc, ◌+◌, ◌<◌, ◌==◌, ◌&&◌, ◌||◌, ◌++◌, ◌∷◌, not, cond, [], List, Bool, true, false, Some, get_or, length, take, refl, sym}
+use Rattle.std.proofs.Common.{ap, subst, ◌∙◌, arith, eq-eqb}
 use Rattle.std.specs.Prelude.{count_by, nat_lt}
 use Rattle.std.specs.List.{list_any, position, position_or_len, slice_get}
 use Rattle.std.proofs.Math.Bool.{and-true, or-false, or-true}
@@ -16,7 +17,8 @@ use Rattle.j39_audit.specs.declared.mark.Word.{Word}
 use Rattle.j39_audit.specs.declared.only_place.Meant.{Meant}
 use Rattle.j39_audit.specs.declared.only_place.OnlyPlace.{OnlyPlace}
 use Rattle.j39_audit.specs.declared.only_place.OnlyPlace.TheVariants.{Nowhere, At, Several}
-use Rattle.j39_audit.specs.inside.Singling.{AreAllMeant, AreMarksOf, AreMeant, IsCountOf, IsOnlyPlace, another_place, is_somewhere, meant_more, nearest_of, nearest_place, only_more}
+use Rattle.j39_audit.specs.inside.Singling.{AreAllMeant, AreMarksOf, AreMeant, IsCountOf, IsOnlyPlace, another_place, is_somewhere, meant_more, nearest_of}
+use Rattle.j39_audit.specs.inside.Singling.{nearest_place, only_more}
 use Rattle.j39_audit.proofs.Below.{each_more, each_none}
 use Rattle.j39_audit.proofs.Noting.{marked_here, marked_not}
 
@@ -109,7 +111,8 @@ meant_whole {meant = meant} {near = near} {all = all} {m = m} end are = subst (�
 
 -- ---- of all places
 
-pub some_in_all : {X : Type 0} (test : X → Bool) (all : List X) (only : OnlyPlace) → IsOnlyPlace test all (length all) only → list_any test all ≡ is_somewhere only
+pub some_in_all : {X : Type 0} (test : X → Bool) (all : List X) (only : OnlyPlace) → IsOnlyPlace test all (length all) only
+    → list_any test all ≡ is_somewhere only
 some_in_all {X = X} test all only is = ap (λ (l : List X). list_any test l) (sym (take-length all)) ∙ is.some_pass
 
 count_in_all : {X : Type 0} (test : X → Bool) (all : List X) (only : OnlyPlace) → IsOnlyPlace test all (length all) only → IsCountOf only (count_by test all)

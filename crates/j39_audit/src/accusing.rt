@@ -5,7 +5,8 @@ ghost use Rattle.std.specs.Option.{option_map_or};
 ghost use Rattle.j39_network.specs.declared.plan.flow_plan.FlowPlan.{FlowPlan as AFlow};
 ghost use Rattle.j39_network.specs.declared.plan.request_plan.RequestPlan.{RequestPlan as ARequest};
 ghost use Rattle.j39_text.specs.Texts.{place_field};
-ghost use Rattle.j39_audit.specs.AuditText.{accusing_line, measure_text, named_flow_text, packets_text, request_text, sending_text};
+ghost use Rattle.j39_audit.specs.AuditText.{accusing_line, measure_text, named_flow_text, packets_text, request_text};
+ghost use Rattle.j39_audit.specs.AuditText.{sending_text};
 ghost use Rattle.j39_audit.specs.AuditText.{stranger_text, subject_of, times_text, unit_and_group_text, unit_at_text};
 ghost use Rattle.j39_audit.specs.AuditText.{unit_text, word_text, worst_text};
 
@@ -86,7 +87,8 @@ pub(crate) fn write_sending(
     sender: usize,
     to: To,
 ) -> WriteResult
-    ensures { OnOk result (text.new ≡ text.old ++ (place_field begin.now place ++ sending_text plan.now group sender to)) }
+    ensures { OnOk result (text.new ≡ text.old ++ (place_field begin.now place
+        ++ sending_text plan.now group sender to)) }
 {
     text.place(begin, place)?;
     text.word(" ")?;
@@ -99,7 +101,8 @@ pub(crate) fn write_sending(
 
 #[tactic(auto, unfolding(crate::specs::AuditText::named_flow_text))]
 fn write_flow_at(text: &mut TextBuffer, plan: &Plan, place: usize) -> WriteResult
-    ensures { OnOk result (text.new ≡ text.old ++ option_map_or (λ (flow : AFlow). named_flow_text plan.now place flow) (slice_get plan.now.flows.items place) []) }
+    ensures { OnOk result (text.new ≡ text.old ++ option_map_or (λ (flow : AFlow). named_flow_text plan.now place flow)
+        (slice_get plan.now.flows.items place) []) }
 {
     match plan.flows.get(place) {
         Some(flow) => write_sending(
@@ -117,7 +120,8 @@ fn write_flow_at(text: &mut TextBuffer, plan: &Plan, place: usize) -> WriteResul
 
 #[tactic(auto, unfolding(crate::specs::AuditText::request_text))]
 fn write_request_at(text: &mut TextBuffer, plan: &Plan, place: usize) -> WriteResult
-    ensures { OnOk result (text.new ≡ text.old ++ option_map_or (λ (r : ARequest). request_text plan.now place r) (slice_get plan.now.requests.items place) []) }
+    ensures { OnOk result (text.new ≡ text.old ++ option_map_or (λ (r : ARequest). request_text plan.now place r)
+        (slice_get plan.now.requests.items place) []) }
 {
     match plan.requests.get(place) {
         Some(request) => write_sending(

@@ -1,11 +1,13 @@
 //! Frames that a log has again, by loggers with two sockets or in merged files.
 ghost use Rattle.std.specs.Prelude.{◌≡◌, ◌<◌, ◌^◌, Some};
 ghost use Rattle.std.specs.Str.{bytes_eq};
-ghost use Rattle.j39_audit.specs.Again.{broadcast_again, broadcasts_again, is_again, is_again_behind, is_same_frame, is_too_soon};
+ghost use Rattle.j39_audit.specs.Again.{broadcast_again, broadcasts_again, is_again, is_again_behind, is_same_frame};
+ghost use Rattle.j39_audit.specs.Again.{is_too_soon};
 ghost use Rattle.j39_audit.specs.Again.{later_behind, moments_again, newest_later, shortest_frame, taken_frame};
 ghost use Rattle.j39_audit.specs.BegunBroadcasts.{BegunBroadcasts as SomeBroadcasts};
 ghost use Rattle.j39_audit.specs.Moments.{Moments as SomeMoments};
-ghost use Rattle.j39_audit.specs.inside.Recalling.{AreNear, RecallsBroadcasts, RecallsMoments, begun_in, far_ahead, newest_in, settings_of};
+ghost use Rattle.j39_audit.specs.inside.Recalling.{AreNear, RecallsBroadcasts, RecallsMoments, begun_in, far_ahead};
+ghost use Rattle.j39_audit.specs.inside.Recalling.{newest_in, settings_of};
 
 use crate::basis::Basis;
 use crate::broadcasts::{BegunBroadcast, BegunBroadcasts};
@@ -17,8 +19,8 @@ use crate::tally::Sighting;
 use j39_id::Frame;
 use j39_network::{Plan, Timing};
 
-/// A frame with a time in microseconds and its line, the flow and the request of which it was seen, and the unit for which
-/// it counted.
+/// A frame with a time in microseconds and its line, the flow and the request of which it was seen, and the unit for
+/// which it counted.
 #[derive(Drop)]
 pub struct TakenFrame {
     pub frame: Frame,
@@ -193,7 +195,8 @@ impl BegunBroadcasts {
     pub fn take_again(&mut self, basis: &Basis<'_>, unit: Option<usize>, line: u64, time: u64)
         requires time { time < 2 ^ 61 }
         ensures { (b : SomeBroadcasts) → RecallsBroadcasts (settings_of basis.now) self.old b
-            → RecallsBroadcasts (settings_of basis.now) self.new (broadcasts_again (settings_of basis.now) unit line time b) }
+            → RecallsBroadcasts (settings_of basis.now) self.new
+            (broadcasts_again (settings_of basis.now) unit line time b) }
     {
         if let Some(unit) = unit {
             let moment = time + LONG_BEFORE + basis.logger_error();

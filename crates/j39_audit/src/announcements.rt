@@ -31,7 +31,8 @@ fn is_unpaced(basis: &Basis<'_>, known: &Known, message: &UnitMessage<'_>, flow:
 
 // Whether some flow may bring a message.
 fn has_flow(basis: &Basis<'_>, known: &Known, message: &UnitMessage<'_>) -> bool
-    ensures { result ≡ list_any (λ (f : AFlow). is_fit (settings_of basis.now) (known_by known.now) (sent_as message.now) f) basis.now.plan.now.flows.items }
+    ensures { result ≡ list_any (λ (f : AFlow). is_fit (settings_of basis.now) (known_by known.now)
+        (sent_as message.now) f) basis.now.plan.now.flows.items }
 {
     basis
         .plan
@@ -43,7 +44,8 @@ fn has_flow(basis: &Basis<'_>, known: &Known, message: &UnitMessage<'_>) -> bool
 
 // Whether one without a period may.
 fn has_unpaced(basis: &Basis<'_>, known: &Known, message: &UnitMessage<'_>) -> bool
-    ensures { result ≡ list_any (λ (f : AFlow). is_unpaced (settings_of basis.now) (known_by known.now) (sent_as message.now) f) basis.now.plan.now.flows.items }
+    ensures { result ≡ list_any (λ (f : AFlow). is_unpaced (settings_of basis.now) (known_by known.now)
+        (sent_as message.now) f) basis.now.plan.now.flows.items }
 {
     basis
         .plan

@@ -74,7 +74,8 @@ pub fn audit_text<S: Source, W: Sink>(
     source: &mut S,
     sink: &mut W,
 ) -> CommandResult
-    ensures { AnswersWhole (IsAudit plan.now part stamps quiet) (IsOfAny (IsAudit plan.now part stamps quiet)) log_limits
+    ensures { AnswersWhole (IsAudit plan.now part stamps quiet)
+        (IsOfAny (IsAudit plan.now part stamps quiet)) log_limits
         (S.state source.old) (S.state source.new) W.state sink.old sink.new result }
 {
     let moving = moving_of(alloc, plan)?;

@@ -1,8 +1,10 @@
 //! Which units are asked for claims, and which of them don't answer.
 ghost use Rattle.std.specs.Prelude.{◌≡◌, ◌≢◌, ◌<◌, ◌^◌, ℕ, true, IfOk, IfSome, OnOk, Some, None, if◌then◌else◌, length};
 ghost use Rattle.std.specs.Option.{option_or};
-ghost use Rattle.j39_audit.specs.Asking.{Asking as AnAsking, all_forgotten, answered, answered_at, asked_at, asked_before, asked_behind, asked_with};
-ghost use Rattle.j39_audit.specs.Asking.{asks_for_claims as is_for_claims, holds_surely, is_asked_to_claim, is_for, is_overdue, is_sender, nobody_asked, with_deaf};
+ghost use Rattle.j39_audit.specs.Asking.{Asking as AnAsking, all_forgotten, answered, answered_at, asked_at};
+ghost use Rattle.j39_audit.specs.Asking.{asked_before, asked_behind, asked_with};
+ghost use Rattle.j39_audit.specs.Asking.{asks_for_claims as is_for_claims, holds_surely, is_asked_to_claim, is_for};
+ghost use Rattle.j39_audit.specs.Asking.{is_overdue, is_sender, nobody_asked, with_deaf};
 ghost use Rattle.j39_audit.specs.Asking.{with_sign_of};
 ghost use Rattle.j39_audit.specs.Claiming.{sender_at};
 ghost use Rattle.j39_audit.specs.Looking.{is_claim};
@@ -189,7 +191,8 @@ impl Asking {
         ensures size { length self.new.asked.items ≡ length self.old.asked.items }
         ensures others { (u : ℕ) → u ≢ unit → request_in self.new u ≡ request_in self.old u }
         ensures here { request_in self.new unit ≡ option_or (request_in self.old unit)
-            (if is_asked_to_claim (settings_of basis.now) (known_by known.now) frame.now unit then Some request else None) }
+            (if is_asked_to_claim (settings_of basis.now) (known_by known.now) frame.now unit then Some request
+            else None) }
     {
         if self.asked[unit].is_none() && is_asked(basis, known, frame, sender, unit) {
             self.asked[unit] = Some(request);
@@ -199,7 +202,8 @@ impl Asking {
     // Asks each unit that a frame asks.
     fn ask_all(&mut self, basis: &Basis<'_>, known: &Known, frame: &Frame, request: ClaimRequest)
         ensures { (a : AnAsking) → RecallsAsking (settings_of basis.now) self.old a
-            → RecallsAsking (settings_of basis.now) self.new (asked_with (settings_of basis.now) (known_by known.now) frame.now request a) }
+            → RecallsAsking (settings_of basis.now) self.new
+            (asked_with (settings_of basis.now) (known_by known.now) frame.now request a) }
     {
         self.is_open = true;
         let sender = sender_at(basis, known, frame.ident.ps);
@@ -217,7 +221,8 @@ impl Asking {
         request: ClaimRequest,
     )
         ensures { (a : AnAsking) → RecallsAsking (settings_of basis.now) self.old a
-            → RecallsAsking (settings_of basis.now) self.new (asked_with (settings_of basis.now) (known_by known.now) frame.now request a) }
+            → RecallsAsking (settings_of basis.now) self.new
+            (asked_with (settings_of basis.now) (known_by known.now) frame.now request a) }
     {
         if asks_for_claims(frame) {
             self.ask_all(basis, known, frame, request);
@@ -235,7 +240,8 @@ impl Asking {
     )
         requires { IfSome time (λ t. t < 2 ^ 61) }
         ensures { (a : AnAsking) → RecallsAsking (settings_of basis.now) self.old a
-            → RecallsAsking (settings_of basis.now) self.new (asked_at (settings_of basis.now) (known_by known.now) frame.now time line a) }
+            → RecallsAsking (settings_of basis.now) self.new
+            (asked_at (settings_of basis.now) (known_by known.now) frame.now time line a) }
     {
         if let Some(time) = time {
             let moment = time + LONG_BEFORE + basis.logger_error();

@@ -3,7 +3,9 @@ ghost use Rattle.std.specs.Prelude.{◌≡◌, ◌≤◌, ◌<◌, ◌^◌, ◌+
 ghost use Rattle.std.specs.Option.{option_copied};
 ghost use Rattle.j39_id.specs.Lines.{Line, yields};
 ghost use Rattle.j39_log.specs.LineCounting.{AreWithin, IsLineMore};
-ghost use Rattle.j39_audit.specs.AuditText.{AuditPast, bad_line, is_of_asking, is_of_broadcasts, is_of_load, is_of_moments, mark_by_bus, passed_by, past_again, past_with_again, skipped_line, with_again};
+ghost use Rattle.j39_audit.specs.AuditText.{AuditPast, bad_line, is_of_asking, is_of_broadcasts, is_of_load};
+ghost use Rattle.j39_audit.specs.AuditText.{is_of_moments, mark_by_bus, passed_by, past_again, past_with_again};
+ghost use Rattle.j39_audit.specs.AuditText.{skipped_line, with_again};
 ghost use Rattle.j39_audit.specs.BegunBroadcasts.{BegunBroadcasts as SomeBroadcasts, broadcasts_behind, packet_with};
 ghost use Rattle.j39_audit.specs.Claiming.{HeardClaims, broken_off};
 ghost use Rattle.j39_audit.specs.Counting.{Noted};
@@ -12,9 +14,12 @@ ghost use Rattle.j39_audit.specs.MessageStreams.{nothing_sighted, sighted_behind
 ghost use Rattle.j39_audit.specs.Moments.{Moments as SomeMoments, with_packet_stream};
 ghost use Rattle.j39_audit.specs.Pauses.{unclear_behind};
 ghost use Rattle.j39_audit.specs.Settings.{Settings};
-ghost use Rattle.j39_audit.specs.inside.Auditing.{AccordsWith, AreAllNear, HasAudited, FollowsNewFrame, HasAuditedWhole, IsWithinLines, RecallsAudit, TakesFrameLine, TakesFrameNew, TakesLine};
+ghost use Rattle.j39_audit.specs.inside.Auditing.{AccordsWith, AreAllNear, HasAudited, FollowsNewFrame};
+ghost use Rattle.j39_audit.specs.inside.Auditing.{HasAuditedWhole, IsWithinLines, RecallsAudit, TakesFrameLine};
+ghost use Rattle.j39_audit.specs.inside.Auditing.{TakesFrameNew, TakesLine};
 ghost use Rattle.j39_audit.specs.inside.Auditing.{AreOnlyTimesNew, RecallsTimes, tallied, times_behind};
-ghost use Rattle.j39_audit.specs.inside.Recalling.{AreNear, KnowsClaims, Notes, RecallsBroadcasts, RecallsMoments, known_by, settings_of};
+ghost use Rattle.j39_audit.specs.inside.Recalling.{AreNear, KnowsClaims, Notes, RecallsBroadcasts, RecallsMoments};
+ghost use Rattle.j39_audit.specs.inside.Recalling.{known_by, settings_of};
 
 use crate::again::{TakenFrame, is_again, taken_frame};
 use crate::announcements::{Announcement, announcement_in};
@@ -144,11 +149,14 @@ fn take_packet(
     requires time { IfSome time (λ t. t < 2 ^ 61) }
     requires near { AreNear moments.old }
     ensures near { OnOk result (AreNear moments.new) }
-    ensures moments { OnOk result ((m : SomeMoments) (b : SomeBroadcasts) → RecallsMoments moments.old m → RecallsBroadcasts (settings_of basis.now) broadcasts.old b
-        → RecallsMoments moments.new (with_packet_stream (settings_of basis.now) time line (packet_with basis.now.plan.now.timing unit frame.now b) m)) }
+    ensures moments { OnOk result ((m : SomeMoments) (b : SomeBroadcasts) → RecallsMoments moments.old m
+        → RecallsBroadcasts (settings_of basis.now) broadcasts.old b
+        → RecallsMoments moments.new (with_packet_stream (settings_of basis.now) time line
+        (packet_with basis.now.plan.now.timing unit frame.now b) m)) }
     ensures broadcasts { OnOk result ((b : SomeBroadcasts) → RecallsBroadcasts (settings_of basis.now) broadcasts.old b
         → RecallsBroadcasts (settings_of basis.now) broadcasts.new
-        (broadcasts_behind (settings_of basis.now) (known_by known.now) unit frame.now announced time moments.old.since line b)) }
+        (broadcasts_behind (settings_of basis.now)
+        (known_by known.now) unit frame.now announced time moments.old.since line b)) }
 {
     let stream = broadcasts.packet(basis, unit, frame);
     broadcasts.take(
@@ -227,10 +235,13 @@ impl<'a> AuditLog<'a> {
         requires near { AreAllNear self.old }
         ensures near { OnOk result (AreAllNear self.new) }
         ensures kept { AreOnlyTimesNew self.old self.new }
-        ensures times { OnOk result ((past : AuditPast) (noted : List Noted) → RecallsTimes (settings_of self.old.basis) self.old past
-            → self.old.tally.sighting ≡ sighted_behind nothing_sighted noted → self.old.tally.unclear.items ≡ unclear_behind [] noted
+        ensures times { OnOk result ((past : AuditPast) (noted : List Noted)
+            → RecallsTimes (settings_of self.old.basis) self.old past
+            → self.old.tally.sighting ≡ sighted_behind nothing_sighted noted
+            → self.old.tally.unclear.items ≡ unclear_behind [] noted
             → RecallsTimes (settings_of self.old.basis) self.new
-            (times_behind (settings_of self.old.basis) (known_by self.old.known) gap anew time frame.now self.old.number noted ending announced past)) }
+            (times_behind (settings_of self.old.basis)
+            (known_by self.old.known) gap anew time frame.now self.old.number noted ending announced past)) }
     {
         let seen = Seen {
             sighting: self.tally.sighting,
@@ -275,7 +286,8 @@ impl<'a> AuditLog<'a> {
         ensures interface { self.new.interface ≡ self.old.interface }
         ensures counts { self.new.counts ≡ self.old.counts }
         ensures again { self.new.again ≡ self.old.again }
-        ensures frame { OnOk result ((past : AuditPast) (named : Option (List ℕ)) → AccordsWith self.old past → self.old.number ≡ past.number
+        ensures frame { OnOk result ((past : AuditPast) (named : Option (List ℕ)) → AccordsWith self.old past
+            → self.old.number ≡ past.number
             → FollowsNewFrame self.new past time named frame.now) }
     {
         let broken = breaks(self.basis.stamps, self.newest, time);
@@ -332,7 +344,8 @@ impl<'a> AuditLog<'a> {
         ensures basis { self.new.basis ≡ self.old.basis }
         ensures number { self.new.number ≡ self.old.number }
         ensures counted { IsLineMore self.old.counts self.new.counts }
-        ensures fault { OnOk result ((past : AuditPast) → RecallsAudit self.old past → RecallsAudit self.new (skipped_line past)) }
+        ensures fault { OnOk result ((past : AuditPast) → RecallsAudit self.old past
+            → RecallsAudit self.new (skipped_line past)) }
     {
         self.taken = None;
         self.moments.pass_over();
@@ -373,7 +386,8 @@ impl<'a> AuditLog<'a> {
         requires near { AreAllNear self.old }
         ensures near { OnOk result (AreAllNear self.new) }
         ensures basis { self.new.basis ≡ self.old.basis }
-        ensures fault { OnOk result ((past : AuditPast) → RecallsAudit self.old past → RecallsAudit self.new (passed_by (settings_of self.new.basis) error past)) }
+        ensures fault { OnOk result ((past : AuditPast) → RecallsAudit self.old past
+            → RecallsAudit self.new (passed_by (settings_of self.new.basis) error past)) }
         ensures number { self.new.number ≡ self.old.number }
         ensures counted { IsLineMore self.old.counts self.new.counts }
     {
@@ -438,7 +452,8 @@ impl<'a> AuditLog<'a> {
         ensures near { OnOk result (AreAllNear self.new) }
         ensures basis { self.new.basis ≡ self.old.basis }
         ensures again { OnOk result ((past : AuditPast) → RecallsAudit self.old past
-            → RecallsAudit self.new (past_with_again (settings_of self.new.basis) time (option_copied named.entry) past)) }
+            → RecallsAudit self.new (past_with_again (settings_of self.new.basis) time
+            (option_copied named.entry) past)) }
         ensures number { self.new.number ≡ self.old.number }
         ensures counts { self.new.counts ≡ self.old.counts }
     {
@@ -499,7 +514,8 @@ impl<'a> AuditLog<'a> {
         requires near { AreAllNear self.old }
         ensures near { OnOk result (AreAllNear self.new) }
         ensures basis { self.new.basis ≡ self.old.basis }
-        ensures line { OnOk result ((past : AuditPast) → RecallsAudit self.old past → TakesLine self.new past line.now) }
+        ensures line { OnOk result ((past : AuditPast) → RecallsAudit self.old past
+            → TakesLine self.new past line.now) }
         ensures number { self.new.number ≡ self.old.number }
         ensures counted { IsLineMore self.old.counts self.new.counts }
     {
@@ -524,7 +540,8 @@ impl<'a> AuditLog<'a> {
         requires room { (most : ℕ) × IsWithinLines self.old most × (most ≤ 2 ^ 62) }
         ensures lines { OnOk result ((s : Settings) (ls : List Line) → HasAudited s self.old ls
             → HasAudited s self.new (ls ++ yields cut line.now)) }
-        ensures count { OnOk result ((most more : ℕ) → IsWithinLines self.old most → most < more → IsWithinLines self.new more) }
+        ensures count { OnOk result ((most more : ℕ) → IsWithinLines self.old most → most < more
+            → IsWithinLines self.new more) }
     {
         match cut {
             Cut::More => Ok(()),
@@ -542,7 +559,8 @@ impl<'a> AuditLog<'a> {
     /// Ends what is open when the log has ended.
     pub fn end(&mut self) -> Result<(), AllocError>
         requires near { AreAllNear self.old }
-        ensures { OnOk result ((s : Settings) (ls : List Line) → HasAudited s self.old ls → HasAuditedWhole s self.new ls) }
+        ensures { OnOk result ((s : Settings) (ls : List Line) → HasAudited s self.old ls
+            → HasAuditedWhole s self.new ls) }
     {
         self.moments.end_all(&self.basis)?;
         self.by_load.end_all(&self.basis.by_load())

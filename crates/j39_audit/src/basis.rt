@@ -10,10 +10,10 @@ use j39_findings::Standing;
 use j39_network::{FlowPlan, Plan, UnitPlan};
 use std::alloc::{AllocError, Global};
 
-/// The plan, which of its units may move to other addresses, of which groups each has flows, whether frames of the bus may
-/// be missing in the log, by how many microseconds the time of a line may differ from the end of its frame, how many
-/// milliseconds without a frame are a gap, how long each flow takes to be sent, and by what it is known how early the
-/// moment of a message may have been.
+/// The plan, which of its units may move to other addresses, of which groups each has flows, whether frames of the bus
+/// may be missing in the log, by how many microseconds the time of a line may differ from the end of its frame, how
+/// many milliseconds without a frame are a gap, how long each flow takes to be sent, and by what it is known how early
+/// the moment of a message may have been.
 #[derive(Clone, Copy)]
 pub(crate) struct Basis<'a> {
     pub plan: &'a Plan,
@@ -62,8 +62,10 @@ fn none_sent(alloc: Global, count: usize) -> Result<Vec<bool>, AllocError>
 fn note_sent(row: &mut Vec<bool>, flow: &FlowPlan, unit: usize)
     requires { flow.now.group < length row.old.items }
     ensures size { length row.new.items ≡ length row.old.items }
-    ensures others { (g : ℕ) → g ≢ flow.now.group → slice_index_or row.new.items g false ≡ slice_index_or row.old.items g false }
-    ensures other { flow.now.sender ≢ unit → (g : ℕ) → slice_index_or row.new.items g false ≡ slice_index_or row.old.items g false }
+    ensures others { (g : ℕ) → g ≢ flow.now.group
+        → slice_index_or row.new.items g false ≡ slice_index_or row.old.items g false }
+    ensures other { flow.now.sender ≢ unit → (g : ℕ)
+        → slice_index_or row.new.items g false ≡ slice_index_or row.old.items g false }
     ensures here { flow.now.sender ≡ unit → slice_index_or row.new.items flow.now.group false ≡ true }
 {
     if flow.sender == unit {

@@ -1,8 +1,10 @@
 //! Packets of broadcasts that the plan knows: which of them come too late behind the frame before.
 ghost use Rattle.std.specs.Prelude.{◌≡◌, ◌+◌, ◌<◌, ◌^◌, IfOk, IfSome, OnOk, None, length};
-ghost use Rattle.j39_audit.specs.BegunBroadcasts.{BegunBroadcasts as SomeBroadcasts, all_ended, announced_to_all, begun_by, broadcasts_before, broadcasts_behind};
+ghost use Rattle.j39_audit.specs.BegunBroadcasts.{BegunBroadcasts as SomeBroadcasts, all_ended, announced_to_all};
+ghost use Rattle.j39_audit.specs.BegunBroadcasts.{begun_by, broadcasts_before, broadcasts_behind};
 ghost use Rattle.j39_audit.specs.BegunBroadcasts.{ended_before, ended_with, is_packet_to_all, late_by, no_broadcasts};
-ghost use Rattle.j39_audit.specs.BegunBroadcasts.{packet_of, stream_of_packets, packet_with, with_one, with_packet, with_sent};
+ghost use Rattle.j39_audit.specs.BegunBroadcasts.{packet_of, stream_of_packets, packet_with, with_one, with_packet};
+ghost use Rattle.j39_audit.specs.BegunBroadcasts.{with_sent};
 ghost use Rattle.j39_audit.specs.Claiming.{Knowledge};
 ghost use Rattle.j39_audit.specs.Near.{excess};
 ghost use Rattle.j39_audit.specs.inside.Recalling.{RecallsBroadcasts, begun_in, known_by, sent_as, settings_of};
@@ -24,7 +26,8 @@ use j39_id::services::DATA_TRANSFER;
 use j39_network::Timing;
 use std::alloc::{AllocError, Global};
 
-/// A planned broadcast: how many of its packets are left, when the frame before these ended at the latest, and its line.
+/// A planned broadcast: how many of its packets are left, when the frame before these ended at the latest, and its
+/// line.
 #[derive(Clone, Copy)]
 pub struct BegunBroadcast {
     pub left: usize,
@@ -257,7 +260,8 @@ impl BegunBroadcasts {
         line: u64,
     ) -> Result<(), AllocError>
         requires { unit < length self.old.begun.items }
-        ensures { OnOk result ((b : SomeBroadcasts) (k : Knowledge) → RecallsBroadcasts (settings_of basis.now) self.old b
+        ensures { OnOk result ((b : SomeBroadcasts) (k : Knowledge)
+            → RecallsBroadcasts (settings_of basis.now) self.old b
             → RecallsBroadcasts (settings_of basis.now) self.new
             (with_sent (settings_of basis.now) k timing unit frame.now idle moment line None (b.begun unit) b)) }
     {
@@ -284,7 +288,8 @@ impl BegunBroadcasts {
         requires { unit < length self.old.begun.items }
         ensures { (b : SomeBroadcasts) → RecallsBroadcasts (settings_of basis.now) self.old b
             → RecallsBroadcasts (settings_of basis.now) self.new
-            (with_one unit (begun_by (settings_of basis.now) (known_by known.now) (sent_as message.now) moment line) b) }
+            (with_one unit (begun_by (settings_of basis.now) (known_by known.now)
+            (sent_as message.now) moment line) b) }
     {
         let one = begun_by(basis, known, message, moment, line);
         self.set(basis, unit, one);
@@ -305,7 +310,8 @@ impl BegunBroadcasts {
     ) -> Result<(), AllocError>
         requires { unit < length self.old.begun.items }
         ensures { OnOk result ((b : SomeBroadcasts) → RecallsBroadcasts (settings_of basis.now) self.old b
-            → RecallsBroadcasts (settings_of basis.now) self.new (with_sent (settings_of basis.now) (known_by known.now) timing unit frame.now idle moment line
+            → RecallsBroadcasts (settings_of basis.now) self.new
+            (with_sent (settings_of basis.now) (known_by known.now) timing unit frame.now idle moment line
             (announced_to_all unit frame.now announced) (b.begun unit) b)) }
     {
         match announced_to_all(unit, frame, announced) {
@@ -332,7 +338,8 @@ impl BegunBroadcasts {
         requires { IfSome time (λ t. t < 2 ^ 61) }
         ensures { OnOk result ((b : SomeBroadcasts) → RecallsBroadcasts (settings_of basis.now) self.old b
             → RecallsBroadcasts (settings_of basis.now) self.new
-            (broadcasts_behind (settings_of basis.now) (known_by known.now) unit frame.now announced time idle line b)) }
+            (broadcasts_behind (settings_of basis.now)
+            (known_by known.now) unit frame.now announced time idle line b)) }
     {
         let Some(timing) = basis.plan.timing else {
             return Ok(());

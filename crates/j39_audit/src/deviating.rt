@@ -41,9 +41,11 @@ fn forget_if_stood_for(
     place: usize,
 )
     ensures size { length newest.new.items ≡ length newest.old.items }
-    ensures others { (n : ℕ) → n ≢ place → slice_index_or newest.new.items n None ≡ slice_index_or newest.old.items n None }
+    ensures others { (n : ℕ) → n ≢ place → slice_index_or newest.new.items n None
+        ≡ slice_index_or newest.old.items n None }
     ensures here { slice_index_or newest.new.items place None
-        ≡ (if is_stood_for basis.now.plan.now unit group place then None else slice_index_or newest.old.items place None) }
+        ≡ (if is_stood_for basis.now.plan.now unit group place then None
+        else slice_index_or newest.old.items place None) }
 {
     if is_stood_for(basis, unit, group, place) {
         forget_at(newest, place);
@@ -62,7 +64,8 @@ fn forget_stood_for(newest: &mut Vec<Option<Newest>>, basis: &Basis<'_>, unit: u
 }
 
 impl Moments {
-    /// Ends, without a look, the pauses of the flows for which a message stands that deviates from a group, if one does.
+    /// Ends, without a look, the pauses of the flows for which a message stands that deviates from a group, if one
+    /// does.
     pub fn end_deviating(&mut self, basis: &Basis<'_>, sighting: Sighting)
         requires near { AreNear self.old }
         ensures near { AreNear self.new }

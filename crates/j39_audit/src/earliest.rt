@@ -38,7 +38,8 @@ impl Earliest {
 
     /// Keeps this as that of a stream.
     pub fn set(&mut self, mark: Mark, moment: Option<u64>) -> Result<(), AllocError>
-        ensures { OnOk result ((key : Key) → earliest_in self.new key ≡ with_earliest (key_of mark) moment (earliest_in self.old) key) }
+        ensures { OnOk result ((key : Key) → earliest_in self.new key ≡ with_earliest (key_of mark) moment
+            (earliest_in self.old) key) }
     {
         let key = (mark.word.number(), mark.subject, mark.group);
         match self.moments.insert(key, moment) {

@@ -2,7 +2,8 @@
 ghost use Rattle.std.specs.Prelude.{◌≡◌, ◌&&◌, ◌||◌, ◌<◌, not, length, OnOk};
 ghost use Rattle.j39_network.specs.declared.plan.flow_plan.FlowPlan.{FlowPlan as AFlow};
 ghost use Rattle.j39_network.specs.declared.plan.request_plan.RequestPlan.{RequestPlan as ARequest};
-ghost use Rattle.j39_audit.specs.SentMessages.{all_marked, asks_by_plan, flows_noted, is_near, is_of, marked, requests_noted};
+ghost use Rattle.j39_audit.specs.SentMessages.{all_marked, asks_by_plan, flows_noted, is_near, is_of, marked};
+ghost use Rattle.j39_audit.specs.SentMessages.{requests_noted};
 ghost use Rattle.j39_audit.specs.declared.mark.Word.TheVariants.{Unclear};
 ghost use Rattle.j39_audit.specs.inside.Recalling.{Notes, known_by, sent_as, settings_of};
 ghost use Rattle.j39_audit.specs.inside.Singling.{AreAllMeant, meant_more};
@@ -26,7 +27,8 @@ fn meant_with(
     place: usize,
     meant: Meant,
 ) -> Meant
-    ensures { result ≡ meant_more is_meant (is_meant && is_near (settings_of basis.now) (known_by known.now) (sent_as message.now) to) place meant }
+    ensures { result ≡ meant_more is_meant (is_meant && is_near (settings_of basis.now) (known_by known.now)
+        (sent_as message.now) to) place meant }
 {
     if is_meant {
         meant.with(true, is_near(basis, known, message, to), place)
@@ -38,7 +40,8 @@ fn meant_with(
 /// For which flow a message may be meant.
 pub(crate) fn flows_meant(basis: &Basis<'_>, known: &Known, message: &UnitMessage<'_>) -> Meant
     ensures { AreAllMeant (is_of (settings_of basis.now) (known_by known.now) (sent_as message.now))
-        (λ (f : AFlow). is_near (settings_of basis.now) (known_by known.now) (sent_as message.now) f.to) basis.now.plan.now.flows.items result }
+        (λ (f : AFlow). is_near (settings_of basis.now) (known_by known.now)
+        (sent_as message.now) f.to) basis.now.plan.now.flows.items result }
 {
     let mut meant = Meant::nothing();
     for place in 0..basis.plan.flows.len() {
@@ -57,7 +60,8 @@ fn is_nearest_flow(
     some_near: bool,
     flow: &FlowPlan,
 ) -> bool
-    ensures { result ≡ (is_of (settings_of basis.now) (known_by known.now) (sent_as message.now) flow.now && (is_near (settings_of basis.now) (known_by known.now) (sent_as message.now) flow.now.to || not some_near)) }
+    ensures { result ≡ (is_of (settings_of basis.now) (known_by known.now) (sent_as message.now) flow.now
+        && (is_near (settings_of basis.now) (known_by known.now) (sent_as message.now) flow.now.to || not some_near)) }
 {
     is_of(basis, known, message, flow) && (is_near(basis, known, message, flow.to) || !some_near)
 }
@@ -73,7 +77,10 @@ fn note_flow(
     place: usize,
 ) -> Result<(), AllocError>
     requires { place < length basis.now.plan.now.flows.items }
-    ensures { OnOk result (Notes tally.old tally.new (marked line Unclear (λ (x : AFlow). is_of (settings_of basis.now) (known_by known.now) (sent_as message.now) x && (is_near (settings_of basis.now) (known_by known.now) (sent_as message.now) x.to || not some_near)) basis.now.plan.now.flows.items place)) }
+    ensures { OnOk result (Notes tally.old tally.new
+        (marked line Unclear (λ (x : AFlow). is_of (settings_of basis.now) (known_by known.now) (sent_as message.now) x
+        && (is_near (settings_of basis.now) (known_by known.now) (sent_as message.now) x.to
+        || not some_near)) basis.now.plan.now.flows.items place)) }
 {
     let flow = &basis.plan.flows[place];
     if is_nearest_flow(basis, known, message, some_near, flow) {
@@ -92,7 +99,10 @@ fn note_each_flow(
     some_near: bool,
     line: u64,
 ) -> Result<(), AllocError>
-    ensures { OnOk result (Notes tally.old tally.new (all_marked line Unclear (λ (x : AFlow). is_of (settings_of basis.now) (known_by known.now) (sent_as message.now) x && (is_near (settings_of basis.now) (known_by known.now) (sent_as message.now) x.to || not some_near)) basis.now.plan.now.flows.items)) }
+    ensures { OnOk result (Notes tally.old tally.new
+        (all_marked line Unclear (λ (x : AFlow). is_of (settings_of basis.now) (known_by known.now)
+        (sent_as message.now) x && (is_near (settings_of basis.now) (known_by known.now) (sent_as message.now) x.to
+        || not some_near)) basis.now.plan.now.flows.items)) }
 {
     for place in 0..basis.plan.flows.len() {
         note_flow(tally, basis, known, message, some_near, line, place)?;
@@ -110,8 +120,10 @@ pub(crate) fn note_flows(
     line: u64,
 ) -> Result<(), AllocError>
     requires { AreAllMeant (is_of (settings_of basis.now) (known_by known.now) (sent_as message.now))
-        (λ (f : AFlow). is_near (settings_of basis.now) (known_by known.now) (sent_as message.now) f.to) basis.now.plan.now.flows.items meant }
-    ensures { OnOk result (Notes tally.old tally.new (flows_noted (settings_of basis.now) (known_by known.now) (sent_as message.now) line)) }
+        (λ (f : AFlow). is_near (settings_of basis.now) (known_by known.now)
+        (sent_as message.now) f.to) basis.now.plan.now.flows.items meant }
+    ensures { OnOk result (Notes tally.old tally.new
+        (flows_noted (settings_of basis.now) (known_by known.now) (sent_as message.now) line)) }
 {
     match meant.nearest() {
         OnlyPlace::Nowhere => Ok(()),
@@ -125,7 +137,8 @@ pub(crate) fn note_flows(
 // Which request of the plan a request may be.
 fn requests_meant(basis: &Basis<'_>, known: &Known, message: &UnitMessage<'_>) -> Meant
     ensures { AreAllMeant (asks_by_plan (settings_of basis.now) (known_by known.now) (sent_as message.now))
-        (λ (r : ARequest). is_near (settings_of basis.now) (known_by known.now) (sent_as message.now) r.to) basis.now.plan.now.requests.items result }
+        (λ (r : ARequest). is_near (settings_of basis.now) (known_by known.now)
+        (sent_as message.now) r.to) basis.now.plan.now.requests.items result }
 {
     let mut meant = Meant::nothing();
     for place in 0..basis.plan.requests.len() {
@@ -144,7 +157,8 @@ pub(crate) fn note_requests(
     message: &UnitMessage<'_>,
     line: u64,
 ) -> Result<(), AllocError>
-    ensures { OnOk result (Notes tally.old tally.new (requests_noted (settings_of basis.now) (known_by known.now) (sent_as message.now) line)) }
+    ensures { OnOk result (Notes tally.old tally.new
+        (requests_noted (settings_of basis.now) (known_by known.now) (sent_as message.now) line)) }
 {
     match requests_meant(basis, known, message).nearest() {
         OnlyPlace::Nowhere => Ok(()),

@@ -7,10 +7,14 @@ ghost use Rattle.j39_id.specs.Ident.{pgn_of};
 ghost use Rattle.j39_audit.specs.Claiming.{HeardClaims};
 ghost use Rattle.j39_audit.specs.Looking.{announced_message, announced_by as message_announced, claim_noted};
 ghost use Rattle.j39_audit.specs.Looking.{has_to_give_way, has_to_say_cannot, may_claim, may_move_to};
-ghost use Rattle.j39_audit.specs.Looking.{claim_of_unit, claim_place, claims_behind, counted, frame_noted, is_above_unplanned as is_above};
-ghost use Rattle.j39_audit.specs.Looking.{is_claim, is_claiming as claims_addresses, is_of_transport as is_for_transport, may_be_transport, is_of_own_group};
-ghost use Rattle.j39_audit.specs.Looking.{is_single as is_single_number, is_urgent as is_urgent_frame, mark_noted, message_noted};
-ghost use Rattle.j39_audit.specs.Looking.{answer_noted, answers_request, asked_noted, is_no_flow, told_of, message_sent, noted_if, request_noted, sent_noted, single as single_message};
+ghost use Rattle.j39_audit.specs.Looking.{claim_of_unit, claim_place, claims_behind, counted, frame_noted};
+ghost use Rattle.j39_audit.specs.Looking.{is_above_unplanned as is_above};
+ghost use Rattle.j39_audit.specs.Looking.{is_claim, is_claiming as claims_addresses};
+ghost use Rattle.j39_audit.specs.Looking.{is_of_transport as is_for_transport, may_be_transport, is_of_own_group};
+ghost use Rattle.j39_audit.specs.Looking.{is_single as is_single_number, is_urgent as is_urgent_frame, mark_noted};
+ghost use Rattle.j39_audit.specs.Looking.{message_noted};
+ghost use Rattle.j39_audit.specs.Looking.{answer_noted, answers_request, asked_noted, is_no_flow, told_of};
+ghost use Rattle.j39_audit.specs.Looking.{message_sent, noted_if, request_noted, sent_noted, single as single_message};
 ghost use Rattle.j39_audit.specs.SentMessages.{deviation as differing_as};
 ghost use Rattle.j39_audit.specs.inside.Recalling.{IsWithinUnits, KnowsClaims, Notes, known_by, sent_as, settings_of};
 
@@ -66,7 +70,8 @@ pub(crate) fn note_if(
     line: u64,
     detail: u64,
 ) -> Result<(), AllocError>
-    ensures { OnOk result (Notes tally.old tally.new (noted_if is (record { mark = mark; line = line; detail = detail }))) }
+    ensures { OnOk result (Notes tally.old tally.new
+        (noted_if is (record { mark = mark; line = line; detail = detail }))) }
 {
     if is {
         tally.note(mark, line, detail)?;
@@ -130,7 +135,8 @@ fn note_place(
 ) -> Result<(), AllocError>
     requires name { name ≡ name_in frame.now }
     requires unit { unit < length basis.now.plan.now.units.items }
-    ensures { OnOk result (Notes tally.old tally.new (claim_place (settings_of basis.now) (known_by known.now) frame.now line unit)) }
+    ensures { OnOk result (Notes tally.old tally.new
+        (claim_place (settings_of basis.now) (known_by known.now) frame.now line unit)) }
 {
     let source = frame.ident.sa;
     if source == NULL_ADDRESS {
@@ -154,7 +160,8 @@ fn note_claim_of_unit(
 ) -> Result<(), AllocError>
     requires name { name ≡ name_in frame.now }
     requires unit { unit < length basis.now.plan.now.units.items }
-    ensures { OnOk result (Notes tally.old tally.new (claim_of_unit (settings_of basis.now) (known_by known.now) frame.now line unit)) }
+    ensures { OnOk result (Notes tally.old tally.new
+        (claim_of_unit (settings_of basis.now) (known_by known.now) frame.now line unit)) }
 {
     note_place(tally, basis, known, frame, name, line, unit)?;
     let urgent = is_above_unplanned(basis, frame);
@@ -174,7 +181,8 @@ fn note_claim(
 ) -> Result<(), AllocError>
     requires name { name ≡ name_in frame.now }
     requires unit { IfSome claimant (λ u. u < length basis.now.plan.now.units.items) }
-    ensures { OnOk result (Notes tally.old tally.new (claim_noted (settings_of basis.now) (known_by known.now) frame.now line claimant)) }
+    ensures { OnOk result (Notes tally.old tally.new
+        (claim_noted (settings_of basis.now) (known_by known.now) frame.now line claimant)) }
 {
     match claimant {
         Some(unit) => note_claim_of_unit(tally, basis, known, frame, name, line, unit),
@@ -328,7 +336,8 @@ fn told_of(answers: bool, mark: Option<Mark>) -> Option<Mark>
     if answers { None } else { mark }
 }
 
-// Notes what was asked for: that a message that differs so answers, and whether none of the plan's requests asked for it.
+// Notes what was asked for: that a message that differs so answers, and whether none of the plan's requests asked for
+// it.
 fn note_asked(
     tally: &mut MarkTally,
     basis: &Basis<'_>,
@@ -340,7 +349,8 @@ fn note_asked(
 ) -> Result<(), AllocError>
     requires mark { mark ≡ differing_as (settings_of basis.now) (known_by known.now) (sent_as message.now) }
     requires answers { answers ≡ answers_request (settings_of basis.now) (known_by known.now) (sent_as message.now) }
-    ensures { OnOk result (Notes tally.old tally.new (asked_noted (settings_of basis.now) (known_by known.now) (sent_as message.now) line)) }
+    ensures { OnOk result (Notes tally.old tally.new
+        (asked_noted (settings_of basis.now) (known_by known.now) (sent_as message.now) line)) }
 {
     note_answer(tally, answers, mark, line)?;
     let besides = known.was_asked_for(basis, true, message.number, message.source);
@@ -355,7 +365,8 @@ fn note_message(
     message: Option<UnitMessage<'_>>,
     line: u64,
 ) -> Result<(), AllocError>
-    ensures { OnOk result (Notes tally.old tally.new (message_noted (settings_of basis.now) (known_by known.now) line (option_map sent_as message.entry))) }
+    ensures { OnOk result (Notes tally.old tally.new
+        (message_noted (settings_of basis.now) (known_by known.now) line (option_map sent_as message.entry))) }
 {
     let Some(message) = message else {
         return Ok(());
@@ -377,7 +388,8 @@ fn note_request(
     line: u64,
     unit: usize,
 ) -> Result<(), AllocError>
-    ensures { OnOk result (Notes tally.old tally.new (request_noted (settings_of basis.now) (known_by known.now) unit frame.now line)) }
+    ensures { OnOk result (Notes tally.old tally.new
+        (request_noted (settings_of basis.now) (known_by known.now) unit frame.now line)) }
 {
     if !requests_group(frame) {
         return Ok(());
@@ -412,7 +424,8 @@ fn note_counted(
     line: u64,
     unit: usize,
 ) -> Result<(), AllocError>
-    ensures { OnOk result (Notes tally.old tally.new (counted (settings_of basis.now) (known_by known.now) frame.now packet line unit)) }
+    ensures { OnOk result (Notes tally.old tally.new
+        (counted (settings_of basis.now) (known_by known.now) frame.now packet line unit)) }
 {
     tally.note(make_mark(Word::Counted, unit), line, 0)?;
     note_message(tally, basis, known, message_of(unit, frame, packet), line)?;
@@ -432,7 +445,8 @@ fn note_sent(
     line: u64,
     sender: SureSender,
 ) -> Result<(), AllocError>
-    ensures { OnOk result (Notes tally.old tally.new (sent_noted (settings_of basis.now) (known_by known.now) frame.now packet line sender)) }
+    ensures { OnOk result (Notes tally.old tally.new
+        (sent_noted (settings_of basis.now) (known_by known.now) frame.now packet line sender)) }
 {
     match sender {
         SureSender::Unit(unit) => note_counted(tally, basis, known, frame, packet, line, unit),

@@ -1,7 +1,8 @@
 //! Gaps: where a log has no frame for long.
 ghost use Rattle.std.specs.Prelude.{◌≡◌, length};
 ghost use Rattle.j39_audit.specs.Below.{least_below, lesser_of};
-ghost use Rattle.j39_audit.specs.Gaps.{ends_gap, is_long_behind, least_pause, pause_of_frames, quiet_by, single_pause, usual_quiet};
+ghost use Rattle.j39_audit.specs.Gaps.{ends_gap, is_long_behind, least_pause, pause_of_frames, quiet_by, single_pause};
+ghost use Rattle.j39_audit.specs.Gaps.{usual_quiet};
 
 use crate::times::breaks;
 use j39_network::{FlowPlan, GroupPlan, Plan};

@@ -1,6 +1,7 @@
 //! Where a log shows that its bus was idle, and when its frames ended.
 ghost use Rattle.std.specs.Prelude.{◌≡◌, ◌<◌, ◌≤◌, ◌*◌, ◌^◌, IfSome};
-ghost use Rattle.j39_audit.specs.Moments.{bit_us, damaged_at_once, idle_mark, earliest_end, is_apart, leaves_idle, reach_back, shows_idle, since_behind};
+ghost use Rattle.j39_audit.specs.Moments.{bit_us, damaged_at_once, idle_mark, earliest_end, is_apart, leaves_idle};
+ghost use Rattle.j39_audit.specs.Moments.{reach_back, shows_idle, since_behind};
 ghost use Rattle.j39_audit.specs.inside.Recalling.{far_ahead, settings_of};
 
 use crate::basis::Basis;

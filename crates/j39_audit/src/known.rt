@@ -1,8 +1,11 @@
 //! What the claims of a log report of units and addresses.
-ghost use Rattle.std.specs.Prelude.{◌≡◌, ◌+◌, ◌*◌, ◌≢◌, ◌<◌, ◌≤◌, ℕ, true, false, Some, None, IfOk, IfSome, OnOk, if◌then◌else◌, length, slice_index_or};
-ghost use Rattle.j39_audit.specs.Claiming.{HeardClaims, broken_off, come_to, no_claims, smaller_name, was_asked_for, with_claim, with_requests};
+ghost use Rattle.std.specs.Prelude.{◌≡◌, ◌+◌, ◌*◌, ◌≢◌, ◌<◌, ◌≤◌, ℕ, true, false, Some, None, IfOk, IfSome, OnOk};
+ghost use Rattle.std.specs.Prelude.{if◌then◌else◌, length, slice_index_or};
+ghost use Rattle.j39_audit.specs.Claiming.{HeardClaims, broken_off, come_to, no_claims, smaller_name, was_asked_for};
+ghost use Rattle.j39_audit.specs.Claiming.{with_claim, with_requests};
 ghost use Rattle.j39_audit.specs.Settings.{moves};
-ghost use Rattle.j39_audit.specs.inside.Recalling.{KnowsClaims, claimed_in, known_by, last_in, least_in, settings_of, taken_in};
+ghost use Rattle.j39_audit.specs.inside.Recalling.{KnowsClaims, claimed_in, known_by, last_in, least_in, settings_of};
+ghost use Rattle.j39_audit.specs.inside.Recalling.{taken_in};
 
 use crate::basis::Basis;
 use crate::places::{kept_at, nothing_kept};
@@ -119,7 +122,8 @@ impl Known {
         seen: Option<usize>,
     ) -> Result<(), AllocError>
         ensures { OnOk result ((claims : HeardClaims) → KnowsClaims (settings_of basis.now) self.old claims
-            → KnowsClaims (settings_of basis.now) self.new (with_requests basis.now.plan.now time frame.now seen claims)) }
+            → KnowsClaims (settings_of basis.now) self.new
+            (with_requests basis.now.plan.now time frame.now seen claims)) }
     {
         self.requests.take(basis.plan, time, frame, seen)
     }
@@ -140,7 +144,8 @@ impl Known {
         ensures requests { self.new.requests ≡ self.old.requests }
         ensures size { length self.new.last.items ≡ length self.old.last.items }
         ensures others { (u : ℕ) → u ≢ unit → last_in self.new u ≡ last_in self.old u }
-        ensures here { last_in self.new unit ≡ (if moves (settings_of basis.now) unit then None else last_in self.old unit) }
+        ensures here { last_in self.new unit ≡ (if moves (settings_of basis.now) unit then None
+            else last_in self.old unit) }
     {
         if basis.moves(unit) {
             self.last[unit] = None;
@@ -166,7 +171,8 @@ impl Known {
         ensures size { length self.new.last.items ≡ length self.old.last.items }
         ensures none { basis.now.part ≡ true → (u : ℕ) → last_in self.new u ≡ last_in self.old u }
         ensures others { (u : ℕ) → u ≢ unit → last_in self.new u ≡ last_in self.old u }
-        ensures here { basis.now.part ≡ false → unit < length self.old.last.items → last_in self.new unit ≡ Some source }
+        ensures here { basis.now.part ≡ false → unit < length self.old.last.items
+            → last_in self.new unit ≡ Some source }
     {
         if !basis.part && unit < self.last.len() {
             self.last[unit] = Some(source);
@@ -198,7 +204,8 @@ impl Known {
         ensures requests { self.new.requests ≡ self.old.requests }
         ensures size { length self.new.least.items ≡ length self.old.least.items }
         ensures others { (a : ℕ) → a ≢ source → least_in self.new a ≡ least_in self.old a }
-        ensures here { length self.old.least.items ≡ 256 → least_in self.new source ≡ Some (smaller_name name (least_in self.old source)) }
+        ensures here { length self.old.least.items ≡ 256
+            → least_in self.new source ≡ Some (smaller_name name (least_in self.old source)) }
     {
         let place = usize::from(source);
         if place < self.least.len() {
@@ -213,8 +220,10 @@ impl Known {
         ensures least { self.new.least ≡ self.old.least }
         ensures requests { self.new.requests ≡ self.old.requests }
         ensures size { length self.new.claimed.items ≡ length self.old.claimed.items }
-        ensures others { (i : ℕ) → i ≢ unit * 256 + source → slice_index_or self.new.claimed.items i false ≡ slice_index_or self.old.claimed.items i false }
-        ensures here { unit < length basis.now.plan.now.units.items → unit * 256 + source < length self.old.claimed.items
+        ensures others { (i : ℕ) → i ≢ unit * 256 + source
+            → slice_index_or self.new.claimed.items i false ≡ slice_index_or self.old.claimed.items i false }
+        ensures here { unit < length basis.now.plan.now.units.items
+            → unit * 256 + source < length self.old.claimed.items
             → slice_index_or self.new.claimed.items (unit * 256 + source) false ≡ true }
     {
         if unit >= basis.plan.units.len() {
@@ -230,7 +239,8 @@ impl Known {
     pub fn hear(&mut self, basis: &Basis<'_>, unit: Option<usize>, source: u8, name: u64)
         requires { IfSome unit (λ u. u < length basis.now.plan.now.units.items) }
         ensures { (claims : HeardClaims) → KnowsClaims (settings_of basis.now) self.old claims
-            → KnowsClaims (settings_of basis.now) self.new (with_claim (record { unit = unit; source = source; name = name }) claims) }
+            → KnowsClaims (settings_of basis.now) self.new
+            (with_claim (record { unit = unit; source = source; name = name }) claims) }
     {
         self.note_name(source, name);
         match unit {

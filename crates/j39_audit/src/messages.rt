@@ -4,8 +4,10 @@ ghost use Rattle.std.specs.List.{list_any, position, slice_get};
 ghost use Rattle.std.specs.Option.{option_copied, option_map_or, option_or};
 ghost use Rattle.j39_signal.specs.Selectors.{is_selected};
 ghost use Rattle.j39_network.specs.declared.plan.group_plan.GroupPlan.{GroupPlan as AGroup};
-ghost use Rattle.j39_audit.specs.SentMessages.{asks_by_plan, deviation, first_group, fits_group, goes, has_priority, is_fit};
-ghost use Rattle.j39_audit.specs.SentMessages.{is_fit_group, is_group, is_near, is_of, is_own, is_reported_by, may_hear, passes};
+ghost use Rattle.j39_audit.specs.SentMessages.{asks_by_plan, deviation, first_group, fits_group, goes, has_priority};
+ghost use Rattle.j39_audit.specs.SentMessages.{is_fit};
+ghost use Rattle.j39_audit.specs.SentMessages.{is_fit_group, is_group, is_near, is_of, is_own, is_reported_by};
+ghost use Rattle.j39_audit.specs.SentMessages.{may_hear, passes};
 ghost use Rattle.j39_audit.specs.Pauses.{group_has_number};
 ghost use Rattle.j39_audit.specs.SentMessages.{flow_group, without_flow};
 ghost use Rattle.j39_audit.specs.declared.messages.Test.TheVariants.{Any, Fitting, Selected};
@@ -21,8 +23,8 @@ use j39_id::addresses::GLOBAL_ADDRESS;
 use j39_network::{FlowPlan, GroupPlan, RequestPlan, To};
 use j39_signal::is_selected;
 
-/// What a unit sent: from where, the number of a group, whereto, whether in a single frame that names no destination, its priority
-/// where it is a single frame, how many bytes, and these where it is a single frame.
+/// What a unit sent: from where, the number of a group, whereto, whether in a single frame that names no destination,
+/// its priority where it is a single frame, how many bytes, and these where it is a single frame.
 #[derive(Clone, Copy)]
 pub(crate) struct UnitMessage<'a> {
     pub unit: usize,
@@ -48,7 +50,8 @@ pub enum Test {
 
 // Whether the bytes of a message are selected.
 fn selects(group: &GroupPlan, bytes: Option<&[u8]>, otherwise: bool) -> bool
-    ensures { result ≡ option_map_or (λ (b : List ℕ). is_selected group.now.when b) (option_copied bytes.entry) otherwise }
+    ensures { result ≡ option_map_or (λ (b : List ℕ). is_selected group.now.when b)
+        (option_copied bytes.entry) otherwise }
 {
     match bytes {
         Some(bytes) => is_selected(group.when, bytes),
@@ -160,7 +163,8 @@ fn is_fit_group(basis: &Basis<'_>, message: &UnitMessage<'_>, place: usize) -> b
 
 // Whether the group at a place is of this priority.
 fn is_of_priority(basis: &Basis<'_>, place: usize, priority: u8) -> bool
-    ensures { result ≡ option_map_or (λ (group : AGroup). group.priority == priority) (slice_get basis.now.plan.now.groups.items place) false }
+    ensures { result ≡ option_map_or (λ (group : AGroup). group.priority == priority)
+        (slice_get basis.now.plan.now.groups.items place) false }
 {
     match basis.plan.groups.get(place) {
         Some(group) => group.priority == priority,
@@ -234,7 +238,8 @@ pub(crate) fn asks(
 
 // The first flow that may bring such a message there.
 fn first_fit(basis: &Basis<'_>, known: &Known, message: &UnitMessage<'_>) -> Option<usize>
-    ensures { result ≡ position (is_fit (settings_of basis.now) (known_by known.now) (sent_as message.now)) basis.now.plan.now.flows.items }
+    ensures { result ≡ position (is_fit (settings_of basis.now) (known_by known.now)
+        (sent_as message.now)) basis.now.plan.now.flows.items }
 {
     basis
         .plan
@@ -283,7 +288,8 @@ fn deviates(unit: usize, word: Word, group: usize) -> Mark
     }
 }
 
-// How a message differs from a flow that may bring it, the first of these being at this place, or that no flow may bring.
+// How a message differs from a flow that may bring it, the first of these being at this place, or that no flow may
+// bring.
 fn without_priority(
     basis: &Basis<'_>,
     message: &UnitMessage<'_>,
@@ -304,7 +310,8 @@ pub(crate) fn deviation(
     message: &UnitMessage<'_>,
     meant: Meant,
 ) -> Option<Mark>
-    requires { list_any (is_of (settings_of basis.now) (known_by known.now) (sent_as message.now)) basis.now.plan.now.flows.items ≡ is_somewhere meant.all }
+    requires { list_any (is_of (settings_of basis.now) (known_by known.now)
+        (sent_as message.now)) basis.now.plan.now.flows.items ≡ is_somewhere meant.all }
     ensures { result ≡ deviation (settings_of basis.now) (known_by known.now) (sent_as message.now) }
 {
     if meant.is_any() {

@@ -1,9 +1,12 @@
 //! What the times of a log report of the moments of messages.
-ghost use Rattle.std.specs.Prelude.{◌≡◌, ◌<◌, ◌≤◌, ◌^◌, ◌++◌, [], ℕ, if◌then◌else◌, List, Option, IfOk, IfSome, OnOk, Some, length};
+ghost use Rattle.std.specs.Prelude.{◌≡◌, ◌<◌, ◌≤◌, ◌^◌, ◌++◌, [], ℕ, if◌then◌else◌, List, Option, IfOk, IfSome, OnOk};
+ghost use Rattle.std.specs.Prelude.{Some, length};
 ghost use Rattle.std.specs.Option.{option_map};
 ghost use Rattle.j39_audit.specs.Counting.{Noted};
-ghost use Rattle.j39_audit.specs.Moments.{Moments as AMoments, all_pauses_ended, begun_anew, behind_bad, behind_gap, lower_bound, moments_behind, no_moments, with_moment};
-ghost use Rattle.j39_audit.specs.Moments.{listed_pauses_ended, moment_window, with_counted, with_ending, with_frame_of, with_message, with_message_of, with_packet_stream, with_stream, with_time};
+ghost use Rattle.j39_audit.specs.Moments.{Moments as AMoments, all_pauses_ended, begun_anew, behind_bad, behind_gap};
+ghost use Rattle.j39_audit.specs.Moments.{lower_bound, moments_behind, no_moments, with_moment};
+ghost use Rattle.j39_audit.specs.Moments.{listed_pauses_ended, moment_window, with_counted, with_ending, with_frame_of};
+ghost use Rattle.j39_audit.specs.Moments.{with_message, with_message_of, with_packet_stream, with_stream, with_time};
 ghost use Rattle.j39_audit.specs.MessageStreams.{nothing_sighted, sighted_behind, sighted_stream};
 ghost use Rattle.j39_audit.specs.Pauses.{unclear_behind};
 ghost use Rattle.j39_audit.specs.inside.Recalling.{AreNear, RecallsMoments, far_ahead, settings_of};
@@ -21,9 +24,9 @@ use j39_id::Frame;
 use j39_network::Timing;
 use std::alloc::{AllocError, Global};
 
-/// What the times of a log report so far: the time of the line before, where it is a frame that has one, since when all was
-/// queued that begins from here on, or by load all has ended that ends from here on, of each stream the earliest moment of
-/// its newest message, of flows with a pause what is kept of these, and what was found.
+/// What the times of a log report so far: the time of the line before, where it is a frame that has one, since when all
+/// was queued that begins from here on, or by load all has ended that ends from here on, of each stream the earliest
+/// moment of its newest message, of flows with a pause what is kept of these, and what was found.
 #[derive(Drop)]
 pub(crate) struct Moments {
     pub before: Option<u64>,
@@ -33,8 +36,8 @@ pub(crate) struct Moments {
     pub pauses: Pauses,
 }
 
-/// What there is to a frame: of which flow or request it is seen, of which flows it may be, for whom it counts, from which
-/// group it deviates, and whose pauses end at it.
+/// What there is to a frame: of which flow or request it is seen, of which flows it may be, for whom it counts, from
+/// which group it deviates, and whose pauses end at it.
 #[derive(Clone, Copy)]
 pub(crate) struct Seen<'a> {
     pub sighting: Sighting,
@@ -157,7 +160,8 @@ impl Moments {
         requires lower { IfSome window.lower (λ x. x < far_ahead) }
         requires near { AreNear self.old }
         ensures near { OnOk result (AreNear self.new) }
-        ensures moments { OnOk result ((m : AMoments) → RecallsMoments self.old m → RecallsMoments self.new (with_message stream window line m)) }
+        ensures moments { OnOk result ((m : AMoments) → RecallsMoments self.old m
+            → RecallsMoments self.new (with_message stream window line m)) }
     {
         let moment = candidate(stream.step, self.earliest.of(stream.mark), window);
         let by = excess(moment, window.upper);
@@ -246,7 +250,8 @@ impl Moments {
         requires unit { unit < 128 }
         requires near { AreNear self.old }
         ensures near { AreNear self.new }
-        ensures moments { (m : AMoments) → RecallsMoments self.old m → RecallsMoments self.new (with_frame_of unit line m) }
+        ensures moments { (m : AMoments) → RecallsMoments self.old m
+            → RecallsMoments self.new (with_frame_of unit line m) }
     {
         let since = self.since;
         let last = LastFrame { line, since };
@@ -278,7 +283,8 @@ impl Moments {
         requires near { AreNear self.old }
         ensures near { OnOk result (AreNear self.new) }
         ensures moments { OnOk result ((m : AMoments) → RecallsMoments self.old m
-            → RecallsMoments self.new (listed_pauses_ended (settings_of basis.now) timing seen.entry.unclear.now (length seen.entry.unclear.now)
+            → RecallsMoments self.new (listed_pauses_ended (settings_of basis.now) timing seen.entry.unclear.now
+            (length seen.entry.unclear.now)
             (with_ending (settings_of basis.now) timing seen.entry.ending m))) }
     {
         self.end_at(basis, timing, seen.ending)?;
@@ -300,7 +306,8 @@ impl Moments {
         requires near { AreNear self.old }
         ensures near { OnOk result (AreNear self.new) }
         ensures moments { OnOk result ((m : AMoments) → RecallsMoments self.old m → RecallsMoments self.new
-            (with_time (settings_of basis.now) (Some timing) gap (Some time) frame.now line seen.entry.sighting seen.entry.unclear.now seen.entry.ending m)) }
+            (with_time (settings_of basis.now) (Some timing) gap
+            (Some time) frame.now line seen.entry.sighting seen.entry.unclear.now seen.entry.ending m)) }
     {
         self.take_time(basis, timing, gap, frame.payload.len(), time);
         self.end_pauses(basis, timing, seen)?;
@@ -325,7 +332,8 @@ impl Moments {
         requires near { AreNear self.old }
         ensures near { OnOk result (AreNear self.new) }
         ensures moments { OnOk result ((m : AMoments) → RecallsMoments self.old m → RecallsMoments self.new
-            (with_time (settings_of basis.now) basis.now.plan.now.timing gap time frame.now line seen.entry.sighting seen.entry.unclear.now seen.entry.ending m)) }
+            (with_time
+            (settings_of basis.now) basis.now.plan.now.timing gap time frame.now line seen.entry.sighting seen.entry.unclear.now seen.entry.ending m)) }
     {
         let Some(timing) = basis.plan.timing else {
             return Ok(());
@@ -352,8 +360,10 @@ impl Moments {
         requires near { AreNear self.old }
         ensures near { OnOk result (AreNear self.new) }
         ensures moments { OnOk result ((m : AMoments) (noted : List Noted) → RecallsMoments self.old m
-            → seen.entry.sighting ≡ sighted_behind nothing_sighted noted → seen.entry.unclear.now ≡ unclear_behind [] noted
-            → RecallsMoments self.new (moments_behind (settings_of basis.now) gap anew time frame.now line noted seen.entry.ending m)) }
+            → seen.entry.sighting ≡ sighted_behind nothing_sighted noted
+            → seen.entry.unclear.now ≡ unclear_behind [] noted
+            → RecallsMoments self.new (moments_behind
+            (settings_of basis.now) gap anew time frame.now line noted seen.entry.ending m)) }
     {
         self.begin(basis, anew, gap)?;
         self.take_at(basis, gap, time, frame, line, seen)?;

@@ -24,8 +24,8 @@ pub struct Newest {
     pub line: u64,
 }
 
-/// The last frame that counted for a unit: its line, and since when all was queued, or by load has ended, that comes from
-/// there on.
+/// The last frame that counted for a unit: its line, and since when all was queued, or by load has ended, that comes
+/// from there on.
 #[derive(Clone, Copy)]
 pub struct LastFrame {
     pub line: u64,
@@ -95,7 +95,8 @@ impl Pauses {
         kept_at(&self.last, unit)
     }
 
-    /// The last frame of a flow's sender, or of those of its sender and of its one receiver the one of the earlier line.
+    /// The last frame of a flow's sender, or of those of its sender and of its one receiver the one of the earlier
+    /// line.
     pub fn last_of(&self, flow: &FlowPlan) -> Option<LastFrame>
         ensures { result ≡ last_of_ends (last_in_pauses self.now) flow.now.sender flow.now.to }
     {

@@ -17,7 +17,8 @@ fn read_piece(log: &mut AuditLog<'_>, cutter: &mut Cutter, piece: &[u8]) -> Resu
     ensures pending { OnOk result (cutter.new.pending ≡ behind_all cutter.old.pending piece.now) }
     ensures lines { OnOk result ((s : Settings) (before : List Line) → HasAudited s log.old before
         → HasAudited s log.new (before ++ yielded cutter.old.pending piece.now)) }
-    ensures count { OnOk result ((most : ℕ) → IsWithinLines log.old most → IsWithinLines log.new (most + length piece.now)) }
+    ensures count { OnOk result ((most : ℕ) → IsWithinLines log.old most
+        → IsWithinLines log.new (most + length piece.now)) }
 {
     let mut rest = piece;
     while !rest.is_empty() {
@@ -36,7 +37,8 @@ pub(crate) fn read_log<S: Source>(log: &mut AuditLog<'_>, source: &mut S) -> Res
         → HasReadLog s log.new (S.state source.old).left (S.state source.new).left) }
     ensures limits { OnOk result (KeepsLimits log_limits (S.state source.old) (S.state source.new)) }
     ensures long { IsErrOf result Fault.TooLong → PassesLimits log_limits (S.state source.old) (S.state source.new) }
-    ensures device { IsErrOf result Fault.Device → HasFailed (S.state source.old).failures (S.state source.new).failures }
+    ensures device { IsErrOf result Fault.Device → HasFailed (S.state source.old).failures
+        (S.state source.new).failures }
     ensures calm { result ≢ Err Fault.Device → (S.state source.new).failures ≡ (S.state source.old).failures }
 {
     let mut cutter = Cutter::new();

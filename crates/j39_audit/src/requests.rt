@@ -1,8 +1,10 @@
 //! Requests for groups, and what was asked for by them.
 ghost use Rattle.std.specs.Prelude.{◌≡◌, ◌<◌, ◌^◌, IfSome, OnOk, None};
 ghost use Rattle.j39_audit.specs.Counting.{Key, key_of};
-ghost use Rattle.j39_audit.specs.Requests.{GroupRequests as SomeRequests, asks_for_planned, is_asked_by, is_asked_for, is_in_time, is_planned_number as is_number};
-ghost use Rattle.j39_audit.specs.Requests.{later_time, request_mark, requests_before, requests_behind, with_request, with_request_of};
+ghost use Rattle.j39_audit.specs.Requests.{GroupRequests as SomeRequests, asks_for_planned, is_asked_by, is_asked_for};
+ghost use Rattle.j39_audit.specs.Requests.{is_in_time, is_planned_number as is_number};
+ghost use Rattle.j39_audit.specs.Requests.{later_time, request_mark, requests_before, requests_behind, with_request};
+ghost use Rattle.j39_audit.specs.Requests.{with_request_of};
 ghost use Rattle.j39_audit.specs.inside.Recalling.{RecallsRequests, earliest_in, requests_in, settings_of};
 
 use crate::basis::Basis;
@@ -97,7 +99,8 @@ impl Requests {
 
     /// Comes to a frame of this time, just before which times begin anew, or go on.
     pub fn come_to(&mut self, anew: bool, time: Option<u64>)
-        ensures requests { (r : SomeRequests) → RecallsRequests self.old r → RecallsRequests self.new (requests_before anew r) }
+        ensures requests { (r : SomeRequests) → RecallsRequests self.old r
+            → RecallsRequests self.new (requests_before anew r) }
         ensures time { self.new.time ≡ time }
     {
         self.time = time;
@@ -109,7 +112,8 @@ impl Requests {
     // Takes a request of this mark and time.
     fn take_mark(&mut self, mark: Mark, time: Option<u64>) -> Result<(), AllocError>
         ensures time { self.new.time ≡ self.old.time }
-        ensures requests { OnOk result ((r : SomeRequests) → RecallsRequests self.old r → RecallsRequests self.new (with_request_of (key_of mark) time r)) }
+        ensures requests { OnOk result ((r : SomeRequests) → RecallsRequests self.old r
+            → RecallsRequests self.new (with_request_of (key_of mark) time r)) }
     {
         let newest = later_time(time, self.newest.of(mark));
         self.ever.set(mark, Some(0))?;
@@ -125,7 +129,8 @@ impl Requests {
         seen: Option<usize>,
     ) -> Result<(), AllocError>
         ensures time { self.new.time ≡ self.old.time }
-        ensures requests { OnOk result ((r : SomeRequests) → RecallsRequests self.old r → RecallsRequests self.new (with_request time number destination seen r)) }
+        ensures requests { OnOk result ((r : SomeRequests) → RecallsRequests self.old r
+            → RecallsRequests self.new (with_request time number destination seen r)) }
     {
         self.take_mark(request_mark(false, number, destination), time)?;
         match seen {
@@ -144,7 +149,8 @@ impl Requests {
         seen: Option<usize>,
     ) -> Result<(), AllocError>
         ensures time { self.new.time ≡ self.old.time }
-        ensures requests { OnOk result ((r : SomeRequests) → RecallsRequests self.old r → RecallsRequests self.new (requests_behind plan.now time frame.now seen r)) }
+        ensures requests { OnOk result ((r : SomeRequests) → RecallsRequests self.old r
+            → RecallsRequests self.new (requests_behind plan.now time frame.now seen r)) }
     {
         if asks_for_planned(plan, frame) {
             self.take_number(time, requested_group(frame), frame.ident.ps, seen)
@@ -166,10 +172,12 @@ impl Requests {
         }
     }
 
-    /// Whether a message of this number in the frame at hand, from this source, was asked for: by any, or by none of the plan's.
+    /// Whether a message of this number in the frame at hand, from this source, was asked for: by any, or by none of
+    /// the plan's.
     #[tactic(auto, unfolding(crate::specs::Requests::is_asked_for))]
     pub fn have_asked_for(&self, basis: &Basis<'_>, besides: bool, number: u32, source: u8) -> bool
-        ensures { result ≡ is_asked_for (settings_of basis.now) self.now.time (requests_in self.now) besides number source }
+        ensures { result ≡ is_asked_for (settings_of basis.now) self.now.time
+            (requests_in self.now) besides number source }
     {
         self.is_asked_by(basis, request_mark(besides, number, GLOBAL_ADDRESS))
             || self.is_asked_by(basis, request_mark(besides, number, source))

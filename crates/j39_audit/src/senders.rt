@@ -1,6 +1,7 @@
 //! Who sends from an address.
 ghost use Rattle.std.specs.Prelude.{◌≡◌, ◌<◌, IfSome, Some, length};
-ghost use Rattle.j39_audit.specs.Claiming.{first_there, is_another_there, is_claimed_last, is_strange, may_be, sender_at};
+ghost use Rattle.j39_audit.specs.Claiming.{first_there, is_another_there, is_claimed_last, is_strange, may_be};
+ghost use Rattle.j39_audit.specs.Claiming.{sender_at};
 ghost use Rattle.j39_audit.specs.Claiming.{gives_way, is_lost_to_another, is_name_below, sure_sender};
 ghost use Rattle.j39_audit.specs.inside.Recalling.{IsWithinUnits, claimed_in, known_by, settings_of};
 

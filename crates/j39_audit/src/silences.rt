@@ -1,8 +1,11 @@
 //! Silences of flows: where the next message comes too late, or where none came while all were there.
 ghost use Rattle.std.specs.Prelude.{◌≡◌, ◌<◌, IfSome, OnOk, Some, None, if◌then◌else◌, length};
-ghost use Rattle.j39_audit.specs.Moments.{Moments as AMoments, all_pauses_ended, ends_with, last_of_flow, listed_pauses_ended, newest_moment, pause_ended, pauses_dropped};
-ghost use Rattle.j39_audit.specs.Moments.{pauses_ended, silence_behind, silent_by, silent_noted, unit_pauses_ended, with_ending, with_pause};
-ghost use Rattle.j39_audit.specs.inside.Recalling.{AreNear, Notes, RecallsMoments, far_ahead, last_in_pauses, settings_of};
+ghost use Rattle.j39_audit.specs.Moments.{Moments as AMoments, all_pauses_ended, ends_with, last_of_flow};
+ghost use Rattle.j39_audit.specs.Moments.{listed_pauses_ended, newest_moment, pause_ended, pauses_dropped};
+ghost use Rattle.j39_audit.specs.Moments.{pauses_ended, silence_behind, silent_by, silent_noted, unit_pauses_ended};
+ghost use Rattle.j39_audit.specs.Moments.{with_ending, with_pause};
+ghost use Rattle.j39_audit.specs.inside.Recalling.{AreNear, Notes, RecallsMoments, far_ahead, last_in_pauses};
+ghost use Rattle.j39_audit.specs.inside.Recalling.{settings_of};
 
 use crate::basis::Basis;
 use crate::mark::{Word, make_mark};
@@ -171,7 +174,8 @@ impl Moments {
         requires near { AreNear self.old }
         ensures near { OnOk result (AreNear self.new) }
         ensures moments { OnOk result ((m : AMoments) → RecallsMoments self.old m → RecallsMoments self.new
-            (if ends_with (settings_of basis.now) unit place then pause_ended (settings_of basis.now) timing place m else m)) }
+            (if ends_with (settings_of basis.now) unit place then pause_ended (settings_of basis.now) timing place m
+            else m)) }
     {
         if self.pauses.newest(place).is_none() {
             return Ok(());
@@ -224,7 +228,8 @@ impl Moments {
         requires near { AreNear self.old }
         ensures near { OnOk result (AreNear self.new) }
         ensures moments { OnOk result ((m : AMoments) → RecallsMoments self.old m → RecallsMoments self.new
-            (pauses_dropped (pauses_ended (settings_of basis.now) timing None (length basis.now.plan.now.flows.items) m))) }
+            (pauses_dropped (pauses_ended (settings_of basis.now) timing None
+            (length basis.now.plan.now.flows.items) m))) }
     {
         if !self.pauses.is_open {
             return Ok(());

@@ -3,9 +3,11 @@ ghost use Rattle.std.specs.Prelude.{◌≡◌, ◌+◌, ◌≤◌, ◌<◌, ◌*
 ghost use Rattle.std.specs.Option.{option_and_then, option_copied, option_map};
 ghost use Rattle.j39_id.specs.Ident.{pgn_of};
 ghost use Rattle.j39_audit.specs.Looking.{is_single as is_single_number};
-ghost use Rattle.j39_audit.specs.MessageStreams.{flow_stream, is_in_stream, queued_within_ms, paced_request, paced_stream, asked_stream};
+ghost use Rattle.j39_audit.specs.MessageStreams.{flow_stream, is_in_stream, queued_within_ms, paced_request};
+ghost use Rattle.j39_audit.specs.MessageStreams.{paced_stream, asked_stream};
 ghost use Rattle.j39_audit.specs.UnitTimes.{longest_us, shortest_us};
-ghost use Rattle.j39_audit.specs.MessageStreams.{flow_pause, flow_pause_of, is_claiming_there, stream_pause, shows_silence, sighted_stream, slack_by};
+ghost use Rattle.j39_audit.specs.MessageStreams.{flow_pause, flow_pause_of, is_claiming_there, stream_pause};
+ghost use Rattle.j39_audit.specs.MessageStreams.{shows_silence, sighted_stream, slack_by};
 ghost use Rattle.j39_audit.specs.inside.Recalling.{settings_of};
 
 use crate::basis::Basis;
@@ -24,9 +26,9 @@ const REQUEST_PRIORITY: u8 = 6;
 
 const MILLION: u64 = 1_000_000;
 
-/// How near the moments of a stream's messages come, how far behind its moment lies what bounds one, where that is known,
-/// how long behind one another's moments they come at most, where that is seen, all in microseconds, and by which mark it
-/// is reported.
+/// How near the moments of a stream's messages come, how far behind its moment lies what bounds one, where that is
+/// known, how long behind one another's moments they come at most, where that is seen, all in microseconds, and by
+/// which mark it is reported.
 #[derive(Clone, Copy)]
 pub struct MessageStream {
     pub mark: Mark,

@@ -1,8 +1,11 @@
 //! What is written of a log that was read.
 ghost use Rattle.std.specs.Prelude.{◌≡◌, ◌≤◌, ◌<◌, ◌++◌, IfOk, OnOk};
-ghost use Rattle.j39_audit.specs.AuditText.{accusation_count, accusations, accusing_at, again_text, answers_text, deviations_line, flow_seen};
-ghost use Rattle.j39_audit.specs.AuditText.{flow_seen_line, flows_seen, groups_named, if_not_by_bus, line_reported, lines_reported, reported_mark};
-ghost use Rattle.j39_audit.specs.AuditText.{request_seen, request_seen_line, requests_seen, sorts_text, stamps_text, subject_count};
+ghost use Rattle.j39_audit.specs.AuditText.{accusation_count, accusations, accusing_at, again_text, answers_text};
+ghost use Rattle.j39_audit.specs.AuditText.{deviations_line, flow_seen};
+ghost use Rattle.j39_audit.specs.AuditText.{flow_seen_line, flows_seen, groups_named, if_not_by_bus, line_reported};
+ghost use Rattle.j39_audit.specs.AuditText.{lines_reported, reported_mark};
+ghost use Rattle.j39_audit.specs.AuditText.{request_seen, request_seen_line, requests_seen, sorts_text, stamps_text};
+ghost use Rattle.j39_audit.specs.AuditText.{subject_count};
 ghost use Rattle.j39_audit.specs.AuditText.{subject_lines, subjects, text_by, times_of, unit_frames_line, unit_seen};
 ghost use Rattle.j39_audit.specs.AuditText.{units_seen, word_count, word_lines};
 ghost use Rattle.j39_audit.specs.inside.Auditing.{all_seen, seen_at, seen_places, tallied};
@@ -84,7 +87,8 @@ fn if_not_by_bus(log: &AuditLog<'_>, by_bus: Mark, or_late: Mark) -> Mark
     }
 }
 
-// The mark that is reported of what a word, a subject and a group name: by load that of a flow of which by the bus nothing is.
+// The mark that is reported of what a word, a subject and a group name: by load that of a flow of which by the bus
+// nothing is.
 fn reported_mark(log: &AuditLog<'_>, word: Word, subject: usize, group: usize) -> Mark
     ensures { result ≡ reported_mark (tallied log.now) word subject group }
 {
@@ -142,7 +146,8 @@ fn write_subject_lines(
     word: Word,
     subject: usize,
 ) -> Result<u64, AllocError>
-    ensures text { OnOk result (text.new ≡ text.old ++ subject_lines (settings_of basis.now) (tallied log.now) word subject) }
+    ensures text { OnOk result (text.new ≡ text.old ++ subject_lines (settings_of basis.now)
+        (tallied log.now) word subject) }
     ensures count { IfOk result (λ n. n ≡ subject_count (settings_of basis.now) (tallied log.now) word subject) }
     ensures few { IfOk result (λ n. n ≤ 256) }
 {
@@ -354,7 +359,8 @@ fn write_stamps(text: &mut TextBuffer, stamps: u64, again: u64) -> WriteResult
 // Writes how many lines there were of each sort.
 #[tactic(auto, unfolding(crate::specs::AuditText::sorts_text))]
 fn write_counts(text: &mut TextBuffer, log: &AuditLog<'_>) -> WriteResult
-    ensures { OnOk result (text.new ≡ text.old ++ sorts_text log.now.basis.stamps log.now.counts log.now.again (tallied log.now)) }
+    ensures { OnOk result (text.new ≡ text.old ++ sorts_text log.now.basis.stamps log.now.counts log.now.again
+        (tallied log.now)) }
 {
     log.counts.write(text)?;
     text.field(" elsewhere ", log.counts.elsewhere)?;
@@ -374,7 +380,8 @@ fn write_deviations(text: &mut TextBuffer, count: u64) -> WriteResult
 /// Writes what was found in a log, and answers how many lines accuse.
 #[tactic(auto, unfolding(crate::specs::AuditText::text_by, crate::specs::AuditText::flows_seen, crate::specs::AuditText::requests_seen, crate::specs::AuditText::units_seen))]
 pub(crate) fn write_audit(text: &mut TextBuffer, log: &AuditLog<'_>) -> Result<u64, AllocError>
-    ensures text { OnOk result (text.new ≡ text.old ++ text_by (settings_of log.now.basis) log.now.counts log.now.again (tallied log.now)) }
+    ensures text { OnOk result (text.new ≡ text.old ++ text_by (settings_of log.now.basis) log.now.counts log.now.again
+        (tallied log.now)) }
     ensures count { IfOk result (λ n. n ≡ accusation_count (settings_of log.now.basis) (tallied log.now)) }
 {
     let plan = log.basis.plan;

@@ -91,7 +91,8 @@ fn note_unclear(unclear: &mut Vec<usize>, mark: Mark) -> Result<(), AllocError>
 
 // With one line more, of something that was found.
 fn again(old: Occurrences, line: u64, detail: u64) -> Occurrences
-    ensures { result ≡ reported_by (min (old.times + 1) most_times) old.first old.detail (greater (old.worst, old.worst_at) line detail) }
+    ensures { result ≡ reported_by (min (old.times + 1) most_times) old.first old.detail
+        (greater (old.worst, old.worst_at) line detail) }
 {
     let times = old.times.saturating_add(1);
     if old.worst < detail {

@@ -1,6 +1,7 @@
 //! Times of lines, and where a log breaks off.
 ghost use Rattle.std.specs.Prelude.{◌≡◌, ◌<◌, ◌^◌, IfSome, Some};
-ghost use Rattle.j39_audit.specs.Breaks.{breaks as breaks_off, clock_time, is_set_back, line_time as time_of_line, newest_behind};
+ghost use Rattle.j39_audit.specs.Breaks.{breaks as breaks_off, clock_time, is_set_back, line_time as time_of_line};
+ghost use Rattle.j39_audit.specs.Breaks.{newest_behind};
 ghost use Rattle.j39_audit.specs.Moments.{begins_anew};
 
 use j39_follow::moment;

@@ -1,5 +1,6 @@
 -- A unit that is asked for claims is reported as deaf exactly where it doesn't claim.
-use Rattle.std.proofs.Common.{◌≡◌, ℕ, zero, suc, ◌+◌, ◌*◌, ◌<◌, ◌≤◌, ◌⊎◌, Bool, true, false, cond, Option, Some, None, refl, sym, ap, subst, ◌∙◌, arith, inl, inr}
+use Rattle.std.proofs.Common.{◌≡◌, ℕ, zero, suc, ◌+◌, ◌*◌, ◌<◌, ◌≤◌, ◌⊎◌, Bool, true, false, cond, Option, Some, None, refl, sym, ap, subst, ◌∙◌, arith, inl}
+use Rattle.std.proofs.Common.{inr}
 use Rattle.std.specs.Prelude.{nat_lt}
 use Rattle.std.specs.Option.{option_or}
 use Rattle.std.proofs.lemmas.Bool.{cases_Bool, cases_eq, cases_lt, ltb-true, true≢false}
@@ -10,7 +11,8 @@ use Rattle.j39_timing.specs.TimedFrames.{Schedule}
 use Rattle.j39_audit.specs.Asking.{is_overdue, longest_answer_ms}
 use Rattle.j39_audit.specs.UnitTimes.{longest_us}
 use Rattle.j39_audit.specs.declared.asking.ClaimRequest.{ClaimRequest}
-use Rattle.j39_audit_laws.specs.Answering.{AnswersInTime, AnswersRequests, AreLinesOfUnit, EndsBetween, IsAnswerWithin, IsDeafAt, IsStillAsked, UnitLines, is_late, is_reported_deaf, request_at, request_before, request_kept, request_next}
+use Rattle.j39_audit_laws.specs.Answering.{AnswersInTime, AnswersRequests, AreLinesOfUnit, EndsBetween, IsAnswerWithin, IsDeafAt, IsStillAsked, UnitLines}
+use Rattle.j39_audit_laws.specs.Answering.{is_late, is_reported_deaf, request_at, request_before, request_kept, request_next}
 use Rattle.j39_audit_laws.specs.LogBounds.{IsMarkedBound, IsTimedBound, Lines}
 use Rattle.j39_audit_laws.specs.MarkRecords.{AreFew, KeepsTime}
 use Rattle.j39_audit_laws.proofs.OnBus.{at_most}

@@ -5,7 +5,8 @@ use Rattle.std.proofs.lemmas.Bool.{cases_Bool, cases_eq, ne_eqb}
 use Rattle.std.proofs.lemmas.List.{append-nil}
 use Rattle.j39_id.specs.declared.frame.Frame.{Frame}
 use Rattle.j39_network.specs.declared.plan.timing.Timing.{Timing}
-use Rattle.j39_audit.specs.Asking.{Asking, answered, answered_at, asked_at, asked_before, asked_behind, asking_behind, deaf_if_overdue, is_overdue, with_deaf, with_sign_of}
+use Rattle.j39_audit.specs.Asking.{Asking, answered, answered_at, asked_at, asked_before, asked_behind, asking_behind, deaf_if_overdue, is_overdue, with_deaf}
+use Rattle.j39_audit.specs.Asking.{with_sign_of}
 use Rattle.j39_audit.specs.Claiming.{Knowledge, is_at}
 use Rattle.j39_audit.specs.Counting.{Noted}
 use Rattle.j39_audit.specs.Looking.{claimant, is_claim}
@@ -137,5 +138,6 @@ notes_the_deaf s t k broken anew time f line unit idle a timing =
     ap (λ (o : Option Timing). (with_sign_of o unit idle b).deaf) timing ∙ noted_by t unit idle b
     ∙ ap (λ (asked : ℕ → Option ClaimRequest). b.deaf ++ deaf_of t unit idle asked) table
     ∙ ap (λ (l : List Noted). l ++ deaf_of t unit idle next)
-    (noted_at_request s k f time line (answered_at s f (asked_before anew broken a)) ∙ noted_answered (is_claim f) (claimant s f).unit (asked_before anew broken a)
+    (noted_at_request s k f time line (answered_at s f (asked_before anew broken a)) ∙ noted_answered (is_claim f) (claimant s f).unit
+    (asked_before anew broken a)
     ∙ noted_before anew broken a)

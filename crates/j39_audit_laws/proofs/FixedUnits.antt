@@ -4,7 +4,8 @@ use Rattle.std.proofs.Common.{inl, inr, refl, sym, ap, ◌∙◌, subst, arith, 
 use Rattle.std.specs.Prelude.{is_none}
 use Rattle.std.specs.List.{AllByRecursion, list_any, slice_get}
 use Rattle.std.specs.Option.{is_some}
-use Rattle.std.proofs.lemmas.Bool.{MatchBool-at_false, and_parts, cases_Bool, cond-false, cond-true, eq-eqb, false_from_ne_true, le-ltb, not-true, or_cases, or_left, true≢false}
+use Rattle.std.proofs.lemmas.Bool.{MatchBool-at_false, and_parts, cases_Bool, cond-false, cond-true, eq-eqb, false_from_ne_true, le-ltb, not-true, or_cases}
+use Rattle.std.proofs.lemmas.Bool.{or_left, true≢false}
 use Rattle.std.proofs.lemmas.Option.{none-some, same_Some, slice_get_within}
 use Rattle.j39_id.specs.Addresses.{is_address}
 use Rattle.j39_id.specs.Lines.{Line, Short as ShortLine}
@@ -15,7 +16,9 @@ use Rattle.j39_tp.specs.declared.packet.Packet.{Packet}
 use Rattle.j39_audit.specs.AuditText.{AuditPast, claims_before, past_with_frame, noted_newly}
 use Rattle.j39_audit.specs.Below.{any_below}
 use Rattle.j39_audit.specs.Breaks.{breaks, line_time}
-use Rattle.j39_audit.specs.Claiming.{Heard, HeardClaims, Knowledge, broken_off, first_there, has_strangers, is_address_of, is_another_there, is_at, is_claimed_last, is_free_for, is_strange, is_strangers, knowledge, may_be, may_stand, newest_of, sender_at, sure_sender, with_claim, with_requests}
+use Rattle.j39_audit.specs.Claiming.{Heard, HeardClaims, Knowledge, broken_off, first_there, has_strangers, is_address_of, is_another_there, is_at}
+use Rattle.j39_audit.specs.Claiming.{is_claimed_last, is_free_for, is_strange, is_strangers, knowledge, may_be, may_stand, newest_of, sender_at, sure_sender}
+use Rattle.j39_audit.specs.Claiming.{with_claim, with_requests}
 use Rattle.j39_id.specs.Addresses.{in_pool}
 use Rattle.j39_audit.specs.Looking.{claimant, claims_behind, is_claim}
 use Rattle.j39_audit.specs.Settings.{AreMoving, Settings, moves, units_planned}
@@ -138,7 +141,8 @@ module _ (s : Settings) (log : List Line) (moving : AreMoving s.plan s.moving) (
     unfolding is_strange
     not_strange =
         let free : is_strangers claims a ≡ false =
-        ap (λ (b : Bool). is_address a && b) (none_taken a claims.all own.0) ∙ elim (is_address a) as (λ b. (b && false) ≡ false) [ true ↦ refl | false ↦ refl ] in
+        ap (λ (b : Bool). is_address a && b) (none_taken a claims.all own.0) ∙ elim (is_address a) as
+        (λ b. (b && false) ≡ false) [ true ↦ refl | false ↦ refl ] in
         ap (λ (b : Bool). b || (has_strangers s && (in_pool a && not (is_claimed_last s k a)))) free
         ∙ ap (λ (b : Bool). b && (in_pool a && not (is_claimed_last s k a))) no_strangers_come
 

@@ -1,7 +1,8 @@
 -- What is noted at a frame is what the frame is marked with, and each mark that accuses is noted once at most.
 use Rattle.std.proofs.Common.{◌≡◌, ◌⊎◌, ℕ, ◌==◌, ◌&&◌, ◌||◌, ◌++◌, ◌∷◌, [], List, Bool, true, false, not, cond}
 use Rattle.std.proofs.Common.{inl, inr, refl, sym, ap, ◌∙◌, subst, eqb-true, arith, Option, Some, None}
-use Rattle.std.proofs.lemmas.Bool.{and_from, and_parts, cases_Bool, cond-false, cond-true, eq-eqb, eqb-false, false_from_ne_true, le-ltb, ltb-false, ne_eqb, not-true, not_from_false, or_parts, true≢false}
+use Rattle.std.proofs.lemmas.Bool.{and_from, and_parts, cases_Bool, cond-false, cond-true, eq-eqb, eqb-false, false_from_ne_true, le-ltb, ltb-false, ne_eqb}
+use Rattle.std.proofs.lemmas.Bool.{not-true, not_from_false, or_parts, true≢false}
 use Rattle.j39_id.specs.Addresses.{is_address, null_address}
 use Rattle.j39_id.specs.FrameMeaning.{name_in}
 use Rattle.j39_id.specs.declared.frame.Frame.{Frame}
@@ -9,18 +10,23 @@ use Rattle.j39_follow.specs.Who.{unit_of_name}
 use Rattle.j39_tp.specs.declared.packet.Packet.{Packet}
 use Rattle.j39_audit.specs.Claiming.{HeardClaims, Knowledge, has_strangers, is_address_of, knowledge, sender_at}
 use Rattle.j39_audit.specs.Counting.{Noted}
-use Rattle.j39_audit.specs.Looking.{claim_noted, claim_place, counted, frame_noted, has_to_say_cannot, is_above_unplanned, is_claim, is_claiming, is_urgent, may_claim, may_move_to, told, asked_noted}
+use Rattle.j39_audit.specs.Looking.{claim_noted, claim_place, counted, frame_noted, has_to_say_cannot, is_above_unplanned, is_claim, is_claiming, is_urgent}
+use Rattle.j39_audit.specs.Looking.{may_claim, may_move_to, told, asked_noted}
 use Rattle.j39_audit.specs.Looking.{mark_noted, message_noted, message_sent, noted_if, noted_with, request_noted, sent_noted}
 use Rattle.j39_audit.specs.SentMessages.{SentMessage, deviation, flows_noted, noted_at}
 use Rattle.j39_audit.specs.Settings.{Settings}
 use Rattle.j39_audit.specs.declared.mark.Mark.{Mark}
 use Rattle.j39_audit.specs.declared.mark.Word.{Word}
-use Rattle.j39_audit.specs.declared.mark.Word.TheVariants.{Short, Stranger, Nobody as NobodyThere, Address, Cannot, Layout, NoFlow, Priority, Urgent, Seen, Unclear, Asked, Counted, Unsure, Break, NearFlow, NearRequest, SilentFlow, Deaf, NearPackets, SilentPackets, NearOrLate, SilentOrLate, Answered, Answers, Besides}
+use Rattle.j39_audit.specs.declared.mark.Word.TheVariants.{Short, Stranger, Nobody as NobodyThere, Address, Cannot, Layout, NoFlow, Priority, Urgent, Seen}
+use Rattle.j39_audit.specs.declared.mark.Word.TheVariants.{Unclear, Asked, Counted, Unsure, Break, NearFlow, NearRequest, SilentFlow, Deaf, NearPackets}
+use Rattle.j39_audit.specs.declared.mark.Word.TheVariants.{SilentPackets, NearOrLate, SilentOrLate, Answered, Answers, Besides}
 use Rattle.j39_audit.specs.declared.senders.SureSender.{SureSender}
 use Rattle.j39_audit.specs.declared.senders.SureSender.TheVariants.{Unit as OfUnit, Nobody, Unknown}
 use Rattle.j39_audit_laws.specs.FoundLines.{Differs, IsAccusing, IsClaimOf, IsAccusedAs, IsSentFrom}
-use Rattle.j39_audit_laws.proofs.Hits.{AtMostOne, HaveWords, In, hits, if_in, in_cases, in_if, in_left, in_right, no_hits, one_before, one_behind, one_if, one_of_one, words_both, words_if}
-use Rattle.j39_audit_laws.proofs.Marking.{IsDeviation, differs_so, flows_seen, is_another, is_of_message, is_seen, is_urgent_word, more_words, of_message_another, request_seen, seen_word, sender_of, unseen, told_so, all_seen_of}
+use Rattle.j39_audit_laws.proofs.Hits.{AtMostOne, HaveWords, In, hits, if_in, in_cases, in_if, in_left, in_right, no_hits, one_before, one_behind, one_if}
+use Rattle.j39_audit_laws.proofs.Hits.{one_of_one, words_both, words_if}
+use Rattle.j39_audit_laws.proofs.Marking.{IsDeviation, differs_so, flows_seen, is_another, is_of_message, is_seen, is_urgent_word, more_words}
+use Rattle.j39_audit_laws.proofs.Marking.{of_message_another, request_seen, seen_word, sender_of, unseen, told_so, all_seen_of}
 
 if_cases : (n : Noted) (b : Bool) (xs ys : List Noted) → In n (cond b xs ys) → ((b ≡ true) × In n xs) ⊎ ((b ≡ false) × In n ys)
 if_cases n true xs ys is = inl (refl, is)

@@ -11,7 +11,9 @@ use Rattle.j39_audit.specs.Counting.{Key, Noted, is_same_key, key_of, word_numbe
 use Rattle.j39_audit.specs.Looking.{noted_if}
 use Rattle.j39_audit.specs.declared.mark.Mark.{Mark}
 use Rattle.j39_audit.specs.declared.mark.Word.{Word}
-use Rattle.j39_audit.specs.declared.mark.Word.TheVariants.{Short, Stranger, Nobody, Address, Cannot, Layout, NoFlow, Priority, Urgent, Seen, Unclear, Asked, Counted, Unsure, Break, NearFlow, NearRequest, SilentFlow, Deaf, NearPackets, SilentPackets, NearOrLate, SilentOrLate, Answered, Answers, Besides}
+use Rattle.j39_audit.specs.declared.mark.Word.TheVariants.{Short, Stranger, Nobody, Address, Cannot, Layout, NoFlow, Priority, Urgent, Seen, Unclear, Asked}
+use Rattle.j39_audit.specs.declared.mark.Word.TheVariants.{Counted, Unsure, Break, NearFlow, NearRequest, SilentFlow, Deaf, NearPackets, SilentPackets}
+use Rattle.j39_audit.specs.declared.mark.Word.TheVariants.{NearOrLate, SilentOrLate, Answered, Answers, Besides}
 use Rattle.j39_audit.proofs.Counted.{same_keys}
 
 -- ---- notes in a list
@@ -46,7 +48,8 @@ if_in m test is = subst (λ (t : Bool). In m (noted_if t m)) (sym is) (inl refl)
 -- ---- words
 
 abbrev words : List Word
-words = Short ∷ Stranger ∷ Nobody ∷ Address ∷ Cannot ∷ Layout ∷ NoFlow ∷ Priority ∷ Urgent ∷ Seen ∷ Unclear ∷ Asked ∷ Counted ∷ Unsure ∷ Break ∷ NearFlow ∷ NearRequest ∷ SilentFlow ∷ Deaf ∷ NearPackets ∷ SilentPackets ∷ NearOrLate ∷ SilentOrLate ∷ Answered
+words = Short ∷ Stranger ∷ Nobody ∷ Address ∷ Cannot ∷ Layout ∷ NoFlow ∷ Priority ∷ Urgent ∷ Seen ∷ Unclear ∷ Asked ∷ Counted ∷ Unsure ∷ Break ∷ NearFlow
+    ∷ NearRequest ∷ SilentFlow ∷ Deaf ∷ NearPackets ∷ SilentPackets ∷ NearOrLate ∷ SilentOrLate ∷ Answered
     ∷ Answers ∷ Besides ∷ []
 
 abbrev word_of : ℕ → Word

@@ -1,5 +1,6 @@
 -- Who sends the packets of a broadcast in turn is not reported as silent, and what is noted of others.
-use Rattle.std.proofs.Common.{◌≡◌, ℕ, zero, suc, ◌+◌, ◌-◌, ◌*◌, ◌<◌, ◌≤◌, ◌==◌, ◌++◌, Bool, true, cond, List, Option, Some, None, refl, sym, ap, ◌∙◌, arith, inl, inr, append_assoc, eq-eqb}
+use Rattle.std.proofs.Common.{◌≡◌, ℕ, zero, suc, ◌+◌, ◌-◌, ◌*◌, ◌<◌, ◌≤◌, ◌==◌, ◌++◌, Bool, true, cond, List, Option, Some, None, refl, sym, ap, ◌∙◌, arith}
+use Rattle.std.proofs.Common.{inl, inr, append_assoc, eq-eqb}
 use Rattle.std.proofs.lemmas.Bool.{cases_Bool, cases_lt, le-ltb, lt-ltb, ne_eqb}
 use Rattle.std.proofs.Math.Nat.{mul-le-mul_left}
 use Rattle.std.proofs.lemmas.List.{append-nil}
@@ -34,7 +35,8 @@ unfolding excess
 no_excess None upper below = refl
 no_excess (Some x) upper below = rw (le-ltb upper x (below x refl)) refl
 
-none_late : (t : Timing) (idle : Option ℕ) (one : BegunBroadcast) → excess idle (one.moment + longest_us t t.broadcast_gap_most) ≡ None → late_by t idle one ≡ None
+none_late : (t : Timing) (idle : Option ℕ) (one : BegunBroadcast) → excess idle (one.moment + longest_us t t.broadcast_gap_most) ≡ None
+    → late_by t idle one ≡ None
 none_late t idle one none = elim (cases_Bool (one.left == 0)) [
   | inl last ↦ rw last refl
   | inr more ↦ rw more none

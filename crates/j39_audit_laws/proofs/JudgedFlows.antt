@@ -61,7 +61,8 @@ module _ (s : Settings) where
         shown : (flow : FlowPlan) (group : GroupPlan) (pace : Pace) (pause : ℕ) → slice_get s.plan.flows.items n ≡ Some flow → flow.pause ≡ Some pause
             → flow.pace ≡ Some pace → slice_get s.plan.groups.items flow.group ≡ Some group → shows_silence s flow group ≡ true → Told
         shown flow group pace pause at_flow at_pause at_pace at_group shows =
-            let whole = and_parts (not s.part) (not flow.on_request && (leb group.most 8 && (is_claiming s flow.sender && is_claiming_there s flow.to))) shows in
+            let whole = and_parts (not s.part) (not flow.on_request
+            && (leb group.most 8 && (is_claiming s flow.sender && is_claiming_there s flow.to))) shows in
             let unasked = and_parts (not flow.on_request) (leb group.most 8 && (is_claiming s flow.sender && is_claiming_there s flow.to)) whole.1 in
             let short = and_parts (leb group.most 8) (is_claiming s flow.sender && is_claiming_there s flow.to) unasked.1 in
             let ends = and_parts (is_claiming s flow.sender) (is_claiming_there s flow.to) short.1 in (
@@ -99,7 +100,8 @@ module _ (s : Settings) where
             → option_and_then (λ (pace : Pace). option_and_then (λ (group : GroupPlan). flow_pause_of s t n flow group pace pause)
             (slice_get s.plan.groups.items flow.group)) o ≡ Some p → Told
         by_pace flow pause at_flow at_pause None at some = absurd (none-some p some)
-        by_pace flow pause at_flow at_pause (Some pace) at some = by_group flow pace pause at_flow at_pause at (slice_get s.plan.groups.items flow.group) refl some
+        by_pace flow pause at_flow at_pause (Some pace) at some = by_group flow pace pause at_flow at_pause at
+            (slice_get s.plan.groups.items flow.group) refl some
 
         by_pause : (flow : FlowPlan) → slice_get s.plan.flows.items n ≡ Some flow → (o : Option ℕ) → flow.pause ≡ o
             → option_and_then (λ (pause : ℕ). option_and_then (λ (pace : Pace). option_and_then (λ (group : GroupPlan).

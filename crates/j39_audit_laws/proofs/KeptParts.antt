@@ -23,7 +23,9 @@ use Rattle.j39_timing.specs.TimedFrames.{Schedule}
 use Rattle.j39_timing.specs.Traffic.{IsQueuedAt}
 use Rattle.j39_load.specs.BusTimes.{with_claims}
 use Rattle.j39_load.specs.KeepsBroadcasts.{IsMessageToAll}
-use Rattle.j39_load.specs.SentFrames.{Announcing, Asking, Broadcasts, Carrying, ClearToSend, EndAcknowledged, First, FrameSources, Held, InSession, IsFrameOf, IsSentByUnit, Packet as CarriedPacket, Part, RequestToSend, Single, Source, goes_to, part_identifier, IsBroadcastFrame, IsRequestFrame, IsSessionFrame}
+use Rattle.j39_load.specs.SentFrames.{Announcing, Asking, Broadcasts, Carrying, ClearToSend, EndAcknowledged, First, FrameSources, Held, InSession, IsFrameOf}
+use Rattle.j39_load.specs.SentFrames.{IsSentByUnit, Packet as CarriedPacket, Part, RequestToSend, Single, Source, goes_to, part_identifier, IsBroadcastFrame}
+use Rattle.j39_load.specs.SentFrames.{IsRequestFrame, IsSessionFrame}
 use Rattle.j39_log_laws.specs.HolderReports.{HaveOwnNumbers}
 use Rattle.j39_log_laws.proofs.Identifiers.{IsOther, planned_other, sent_as}
 use Rattle.j39_log_laws.proofs.SentFrames.{no_transport, planned_number}
@@ -33,10 +35,12 @@ use Rattle.j39_audit.specs.Looking.{IsPacketOf, announced_message, is_claim, is_
 use Rattle.j39_audit.specs.SentMessages.{SentMessage}
 use Rattle.j39_audit.specs.Settings.{Settings}
 use Rattle.j39_audit_laws.specs.FoundLines.{IsFrameAt}
-use Rattle.j39_audit_laws.specs.KeptParts.{CarriesPlanned, IsGroupAnnounced, IsGroupMessage, KeepersAreNotAccused, KeptPlansAreNotAccused, KeepsBesidePlan, KeepsOwnFrames, ShowsFrames, WireFrames, OfFlowsGroup}
+use Rattle.j39_audit_laws.specs.KeptParts.{CarriesPlanned, IsGroupAnnounced, IsGroupMessage, KeepersAreNotAccused, KeptPlansAreNotAccused, KeepsBesidePlan}
+use Rattle.j39_audit_laws.specs.KeptParts.{KeepsOwnFrames, ShowsFrames, WireFrames, OfFlowsGroup}
 use Rattle.j39_audit_laws.specs.OwnPart.{ClaimsAddresses, GoesAsPlanned, IsByThePlan, IsItsAddress, IsItsNumber, IsOfFlowPlanned, LooksAsPlanned, SentBy}
 use Rattle.j39_audit_laws.proofs.PlanTiming.{planned_timing}
-use Rattle.j39_audit_laws.proofs.Own.{can_claim, claim_number, claims_its_own, flows_are_planned, layouts_are_planned, priorities_are_planned, waits_for_planned, who_always_can, who_claims_its_own}
+use Rattle.j39_audit_laws.proofs.Own.{can_claim, claim_number, claims_its_own, flows_are_planned, layouts_are_planned, priorities_are_planned}
+use Rattle.j39_audit_laws.proofs.Own.{waits_for_planned, who_always_can, who_claims_its_own}
 use Rattle.j39_audit_laws.proofs.RunMessages.{other_none, priority_as, sent_message}
 
 -- ---- numbers and addresses
@@ -312,7 +316,8 @@ module _ (s : Settings) (timing : Timing) (own : HaveOwnNumbers s.plan) (u : ℕ
         (number ∙ is.identifier bit queued
         ∙ ap (λ (d : ℕ). identifier_of timing.transport_priority connection_management d (address v)) (sym destination)
         ∙ ap (λ (a : ℕ). identifier_of timing.transport_priority connection_management (goes_to address message.flow.to) a) (sym source))
-        (subst (λ (x : ℕ). OfFlowsGroup plan (b.flow x m) (λ group. IsGroupAnnounced group f.payload.items)) same bytes message.flow message.group message.its message.of)
+        (subst (λ (x : ℕ). OfFlowsGroup plan (b.flow x m)
+        (λ group. IsGroupAnnounced group f.payload.items)) same bytes message.flow message.group message.its message.of)
 
     carried : (v m : ℕ) → v ≡ u → IsBroadcastFrame timing bus held b data_transfer v m release p → IsFine
     carried v m same is =

@@ -22,7 +22,8 @@ use Rattle.j39_load.specs.KeepsPlan.{KeepsQueues, KeepsToPlan, KeptBus}
 use Rattle.j39_load.specs.Loads.{bits_per_ms}
 use Rattle.j39_load.specs.SentFrames.{FrameSources, HasPeriodMs, IsMsBehind, IsSingleFrame, Single, goes_to}
 use Rattle.j39_load.proofs.KeepingApart.{few_ident}
-use Rattle.j39_load.proofs.KeepingPlanned.{answer_nothing, keeps_all, keeps_queues, no_broadcasts, none_sent, period_is, planned_address, planned_controllers, planned_held, planned_single}
+use Rattle.j39_load.proofs.KeepingPlanned.{answer_nothing, keeps_all, keeps_queues, no_broadcasts, none_sent, period_is, planned_address, planned_controllers}
+use Rattle.j39_load.proofs.KeepingPlanned.{planned_held, planned_single}
 use Rattle.j39_load.proofs.Milliseconds.{at_once, in_ms_behind}
 use Rattle.j39_load.proofs.Slots.{ends_before}
 use Rattle.j39_audit_laws.specs.LoggedBuses.{IsOftenSent}

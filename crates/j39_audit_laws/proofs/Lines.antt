@@ -11,7 +11,8 @@ use Rattle.j39_id.specs.declared.line_error.LineError.{LineError}
 use Rattle.j39_id.specs.declared.line_error.LineError.TheVariants.{Empty, NoHash, ShortIdent, BadIdent, TooLong, BadData}
 use Rattle.j39_follow.specs.LogLines.{IsTimeText}
 use Rattle.j39_tp.specs.declared.packet.Packet.{Packet}
-use Rattle.j39_audit.specs.AuditText.{AuditPast, AuditsLine, AuditsLines, AuditsShort, claims_before, nothing_read, passed_by, past_with_frame, skipped_line, with_next_number, past_again}
+use Rattle.j39_audit.specs.AuditText.{AuditPast, AuditsLine, AuditsLines, AuditsShort, claims_before, nothing_read, passed_by, past_with_frame, skipped_line}
+use Rattle.j39_audit.specs.AuditText.{with_next_number, past_again}
 use Rattle.j39_audit.specs.Breaks.{breaks, line_time}
 use Rattle.j39_audit.specs.Claiming.{HeardClaims}
 use Rattle.j39_audit.specs.Counting.{Noted}
@@ -23,7 +24,8 @@ use Rattle.j39_audit.specs.declared.mark.Word.TheVariants.{Short, Break}
 use Rattle.j39_audit.proofs.Hearing.{as_many_lines, frame_number, again_number}
 use Rattle.j39_audit_laws.specs.FoundLines.{IsAccusing, IsFoundAt, IsFrameAt, IsLineOf, IsAccusedAs, IsReadHere, IsShortAt}
 use Rattle.j39_audit_laws.proofs.Frames.{marked_noted, noted_means, noted_once}
-use Rattle.j39_audit_laws.proofs.Hits.{AtMostOne, In, HaveWords, hit_in, hits, hits_both, if_in, in_cases, in_hits, in_if, in_right, no_hits, one_behind, one_if, words_if}
+use Rattle.j39_audit_laws.proofs.Hits.{AtMostOne, In, HaveWords, hit_in, hits, hits_both, if_in, in_cases, in_hits, in_if, in_right, no_hits, one_behind}
+use Rattle.j39_audit_laws.proofs.Hits.{one_if, words_if}
 use Rattle.j39_audit_laws.proofs.Marking.{is_seen, seen_word, unseen}
 use Rattle.j39_audit_laws.proofs.OneReading.{one_line_read, one_log_read}
 use Rattle.j39_audit.specs.Again.{is_again}
@@ -41,9 +43,11 @@ unfolding past_with_frame
 frame_notes s past time named f packet = refl
 
 -- a frame is read at the line of a number
-unfoldable pub frame_at : (s : Settings) (log : List Line) (number : ℕ) (past : AuditPast) (line part : List ℕ) (named : Option (List ℕ)) (f : Frame) (time : List ℕ)
+unfoldable pub frame_at : (s : Settings) (log : List Line) (number : ℕ) (past : AuditPast) (line part : List ℕ) (named : Option (List ℕ)) (f : Frame)
+    (time : List ℕ)
     (packet : Option Packet) → IsLineOf s log number past (ShortLine line) → IsReadHere past line part named → Spells part f → IsTimeText line time
-    → is_again s.plan past.taken (line_time s.plan time) f ≡ false → IsPacketOf f packet → IsFrameAt s log number (claims_before s past (line_time s.plan time)) f packet
+    → is_again s.plan past.taken (line_time s.plan time) f ≡ false → IsPacketOf f packet
+    → IsFrameAt s log number (claims_before s past (line_time s.plan time)) f packet
 frame_at s log number past line part named f time packet line_is reads spelled time_is new packet_is = record {
   past = past;
   line = line;
@@ -220,12 +224,19 @@ module _ (s : Settings) (log : List Line) (m : Mark) (accuses : IsAccusing m.wor
     frame_found claims f packet at marked =
         let t : Option ℕ = line_time s.plan at.time in
         let other : AuditPast = past_with_frame s at.past t at.named f packet in
-        let is : next ≡ other = leads_there at.past at.line at.line_is other
-        (at.part, at.named, at.reads.part_is, at.reads.named_is, inr (at.reads.here, inl (f, at.time, at.spelled, at.time_is, inr (at.new, (packet, at.packet_is, refl))))) in
+        let is : next ≡ other = leads_there at.past at.line at.line_is other (
+          at.part,
+          at.named,
+          at.reads.part_is,
+          at.reads.named_is,
+          inr
+              (at.reads.here, inl (f, at.time, at.spelled, at.time_is, inr (at.new, (packet, at.packet_is, refl)))),
+        ) in
         let marks = marked_noted s (claims_before s at.past t) f packet at.past.number m.word m.subject m.group
         (subst (λ (c : HeardClaims). IsAccusedAs s c f packet m.word m.subject m.group) at.claims_are marked) in
         some_more marks.0 (notes_at s at.past t f packet)
-        (in_right marks.0 (break_noted at.past.number (breaks s.stamps at.past.newest t)) (frame_noted s (claims_before s at.past t) f packet at.past.number) marks.1)
+        (in_right marks.0 (break_noted at.past.number (breaks s.stamps at.past.newest t))
+        (frame_noted s (claims_before s at.past t) f packet at.past.number) marks.1)
         marks.2
         (ap (λ (p : AuditPast). p.noted) is ∙ frame_notes s at.past t at.named f packet
         ∙ ap (λ (l : List Noted). l ++ notes_at s at.past t f packet) (notes_before at.past at.line at.line_is))

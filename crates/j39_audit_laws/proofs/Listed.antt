@@ -15,12 +15,15 @@ use Rattle.j39_follow.specs.Who.{numbered_unit, unit_of_kind, unit_of_name}
 use Rattle.j39_tp.specs.declared.packet.Packet.{Packet}
 use Rattle.j39_audit.specs.AuditText.{groups_named, subjects}
 use Rattle.j39_audit.specs.Below.{first_below}
-use Rattle.j39_audit.specs.Claiming.{HeardClaims, Knowledge, first_there, has_strangers, is_another_there, is_strange, knowledge, may_be, sender_at, sure_sender}
+use Rattle.j39_audit.specs.Claiming.{HeardClaims, Knowledge, first_there, has_strangers, is_another_there, is_strange, knowledge, may_be, sender_at}
+use Rattle.j39_audit.specs.Claiming.{sure_sender}
 use Rattle.j39_audit.specs.SentMessages.{SentMessage, deviates, deviation, first_group, flow_group, is_fit, is_group, is_of, with_fit_flow, without_flow}
 use Rattle.j39_audit.specs.Settings.{Settings, units_planned}
 use Rattle.j39_audit.specs.declared.mark.Mark.{Mark}
 use Rattle.j39_audit.specs.declared.mark.Word.{Word}
-use Rattle.j39_audit.specs.declared.mark.Word.TheVariants.{Short, Stranger, Nobody as NobodyThere, Address, Cannot, Layout, NoFlow, Priority, Urgent, Seen, Unclear, Asked, Counted, Unsure, Break, NearFlow, NearRequest, SilentFlow, Deaf, NearPackets, SilentPackets, NearOrLate, SilentOrLate, Answered, Answers, Besides}
+use Rattle.j39_audit.specs.declared.mark.Word.TheVariants.{Short, Stranger, Nobody as NobodyThere, Address, Cannot, Layout, NoFlow, Priority, Urgent, Seen}
+use Rattle.j39_audit.specs.declared.mark.Word.TheVariants.{Unclear, Asked, Counted, Unsure, Break, NearFlow, NearRequest, SilentFlow, Deaf, NearPackets}
+use Rattle.j39_audit.specs.declared.mark.Word.TheVariants.{SilentPackets, NearOrLate, SilentOrLate, Answered, Answers, Besides}
 use Rattle.j39_audit.specs.declared.messages.Test.{Test}
 use Rattle.j39_audit.specs.declared.messages.Test.TheVariants.{Fitting, Selected, Any}
 use Rattle.j39_audit.specs.declared.senders.SureSender.TheVariants.{Unit as OfUnit, Nobody, Unknown}
@@ -118,8 +121,11 @@ module _ (s : Settings) (k : Knowledge) (m : SentMessage) where
 module _ (s : Settings) (claims : HeardClaims) (f : Frame) (packet : Option Packet) where
   differs_inside : (w : Word) (u g : ℕ) → Differs s claims f packet (record { word = w; subject = u; group = g })
       → (u < units_planned s) × (g < length s.plan.groups.items)
-  differs_inside w u g d =
-      (sender_inside s (knowledge s claims) f.ident.sa u d.sent.sender_is, deviation_inside s (knowledge s claims) d.message _ (told_is s (knowledge s claims) d.message _ d.differs))
+  differs_inside w u g d = (
+    sender_inside s (knowledge s claims) f.ident.sa u d.sent.sender_is,
+    deviation_inside s (knowledge s claims) d.message _
+        (told_is s (knowledge s claims) d.message _ d.differs),
+  )
 
   first_of_one : (g : ℕ) → g ≡ 0 → g < 1
   first_of_one g e = omega (arith, e)

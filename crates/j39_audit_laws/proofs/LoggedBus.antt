@@ -1,5 +1,6 @@
 -- A bus that keeps to its plan, and a whole log of it: two frames of one flow.
-use Rattle.std.proofs.Common.{◌≡◌, ℕ, suc, ◌+◌, ◌-◌, ◌<◌, ◌≤◌, ◌⊎◌, List, [], ◌∷◌, ◌++◌, All, length, Option, Some, None, refl, sym, ap, ◌∙◌, subst, inl, inr, Bool, true, ◌&&◌, ◌||◌, ◌==◌, if◌then◌else◌}
+use Rattle.std.proofs.Common.{◌≡◌, ℕ, suc, ◌+◌, ◌-◌, ◌<◌, ◌≤◌, ◌⊎◌, List, [], ◌∷◌, ◌++◌, All, length, Option, Some, None, refl, sym, ap, ◌∙◌, subst, inl, inr}
+use Rattle.std.proofs.Common.{Bool, true, ◌&&◌, ◌||◌, ◌==◌, if◌then◌else◌}
 use Rattle.std.proofs.Common.{arith, false}
 use Rattle.std.proofs.lemmas.Bool.{true≢false, leb-false, ltb-true, le-ltb}
 use Rattle.std.proofs.lemmas.List.{length-append, length-map}
@@ -44,8 +45,10 @@ use Rattle.j39_audit_laws.specs.MarkRecords.{IsNextTo, IsTimeOf}
 use Rattle.j39_audit_laws.specs.OwnPart.{AreItsOwn, IsItsAddress}
 use Rattle.j39_audit_laws.specs.PauseLines.{FrameLine, time_there, IsAgainAt}
 use Rattle.j39_audit_laws.proofs.SoleSenders.{may_be_planned, sole_sender, still_none, unheard}
-use Rattle.j39_audit_laws.proofs.LateSlots.{either_later, ends_in_turn, exact_clock, exact_keeps, first_ended, first_time, ident_of_flow, late_bus, late_frame, late_sent, late_slots, next_one, second_ended, second_time}
-use Rattle.j39_audit_laws.proofs.TimedLines.{IsWrittenTime, later_text, later_written, line_time_is, no_interface, not_elsewhere, only_frame, only_time, read_part, second_text, only_part}
+use Rattle.j39_audit_laws.proofs.LateSlots.{either_later, ends_in_turn, exact_clock, exact_keeps, first_ended, first_time, ident_of_flow, late_bus, late_frame}
+use Rattle.j39_audit_laws.proofs.LateSlots.{late_sent, late_slots, next_one, second_ended, second_time}
+use Rattle.j39_audit_laws.proofs.TimedLines.{IsWrittenTime, later_text, later_written, line_time_is, no_interface, not_elsewhere, only_frame, only_time}
+use Rattle.j39_audit_laws.proofs.TimedLines.{read_part, second_text, only_part}
 use Rattle.j39_audit_laws.proofs.TimedLines.{second_written, spelled, time_text, timed_line}
 use Rattle.j39_audit.specs.Again.{is_again, is_again_behind, is_same_frame, taken_frame}
 use Rattle.j39_audit.specs.declared.again.TakenFrame.{TakenFrame}
@@ -95,7 +98,8 @@ module _ (s : Settings) (apart : ArePlannedApart (units_of s.plan)) (written tim
 
   holds_own : (t v : ℕ) → v < length s.plan.units.items → IsItsAddress s.plan v (planned_address s.plan apart v)
   holds_own t v below =
-      let (unit, at, same) = placed s.plan.keep_free s.plan.units.items v (let size = length-map s.plan.units.items (planned_unit s.plan.keep_free) in omega (arith, below, size)) in
+      let (unit, at, same) = placed s.plan.keep_free s.plan.units.items v
+      (let size = length-map s.plan.units.items (planned_unit s.plan.keep_free) in omega (arith, below, size)) in
       record { unit = unit; unit_is = at; planned_or_free = inl (sym (ap (λ (c : PlannedUnit). c.preferred) same)) }
 
   carries : CarriesPlan s.plan bus wire all_planned (late_sent s.plan timing apart f flow pace group is) (planned_held s.plan apart)
@@ -126,7 +130,8 @@ module _ (s : Settings) (apart : ArePlannedApart (units_of s.plan)) (written tim
       omega (arith, less, same)
 
   one_word : (word : List ℕ) × IsLastWord (canon_text (bits frame.ident) frame.payload.items) word × WordSpells word (bits frame.ident) frame.payload.items
-  one_word = canon_spells (bits frame.ident) frame.payload.items few (let most = of_flow.message.at_most in let short = is.short in omega (arith, most, short)) of_flow.bytes
+  one_word = canon_spells (bits frame.ident) frame.payload.items few
+      (let most = of_flow.message.at_most in let short = is.short in omega (arith, most, short)) of_flow.bytes
 
   word : List ℕ
   word = one_word.0
@@ -198,7 +203,8 @@ module _ (s : Settings) (apart : ArePlannedApart (units_of s.plan)) (written tim
   ]
     where
       of_text : (text : List ℕ) (written_time : ℕ) (written_text : IsWrittenTime text written_time) {number : ℕ} (l : IsAgainAt s log number) (time : ℕ)
-          → line_time s.plan l.time ≡ Some time → l.line ≡ timed_line text written_time written_text frame word spells some_word whole_word → time ≡ written_time
+          → line_time s.plan l.time ≡ Some time → l.line ≡ timed_line text written_time written_text frame word spells some_word whole_word
+          → time ≡ written_time
       of_text text written_time written_text l time at same =
           let at_time = subst (λ (x : List ℕ). IsTimeText x l.time) same l.time_is in
           let text_is = only_time text written_time written_text frame word spells some_word whole_word l.time at_time in
@@ -324,7 +330,8 @@ module _ (s : Settings) (apart : ArePlannedApart (units_of s.plan)) (written tim
       and_false_right false b is = refl
 
   audits_line : (text : List ℕ) (time : ℕ) (written_text : IsWrittenTime text time) (past : AuditPast)
-      → is_again s.plan past.taken (line_time s.plan text) frame ≡ false → AuditsLine s past (Short (timed_line text time written_text frame word spells some_word whole_word))
+      → is_again s.plan past.taken (line_time s.plan text) frame ≡ false
+      → AuditsLine s past (Short (timed_line text time written_text frame word spells some_word whole_word))
       (past_with_frame s (with_next_number past) (line_time s.plan text) None frame packet)
   audits_line text time written_text past new = (
     timed_line text time written_text frame word spells some_word whole_word,
@@ -349,7 +356,11 @@ module _ (s : Settings) (apart : ArePlannedApart (units_of s.plan)) (written tim
 
   both_read : AuditsLines s nothing_read log second_past
   unfolding first_past second_past
-  both_read = (first_past, audits_line second_text 1000000 second_written nothing_read first_new, (second_past, audits_line later_text 1990000 later_written first_past second_new, refl))
+  both_read = (
+    first_past,
+    audits_line second_text 1000000 second_written nothing_read first_new,
+    (second_past, audits_line later_text 1990000 later_written first_past second_new, refl),
+  )
 
   first_at : IsFrameAt s log 1 (claims_before s (with_next_number nothing_read) (line_time s.plan second_text)) frame packet
   first_at = record {
@@ -456,9 +467,11 @@ module _ (s : Settings) (apart : ArePlannedApart (units_of s.plan)) (written tim
   its_own u = record {
     frames = λ number claims g packet at other address sure.
         let inside : flow.sender < length s.plan.units.items = ltb-true flow.sender (length s.plan.units.items) (planned_sender s.plan apart f flow is.its) in
-        let (unit, unit_at, same) = placed s.plan.keep_free s.plan.units.items flow.sender (let size = length-map s.plan.units.items (planned_unit s.plan.keep_free) in omega (arith, inside, size)) in
+        let (unit, unit_at, same) = placed s.plan.keep_free s.plan.units.items flow.sender
+        (let size = length-map s.plan.units.items (planned_unit s.plan.keep_free) in omega (arith, inside, size)) in
         let read : g ≡ frame = read_frame (record { claims = claims; f = g; packet = packet; at = at }) in
-        let planned : unit.address ≡ g.ident.sa = sym (ap (λ (h : Frame). h.ident.sa) read ∙ (sent_so.source_is ∙ ap (λ (c : PlannedUnit). c.preferred) same)) in
+        let planned : unit.address ≡ g.ident.sa = sym (ap (λ (h : Frame). h.ident.sa) read ∙ (sent_so.source_is ∙ ap
+        (λ (c : PlannedUnit). c.preferred) same)) in
         ap (λ (k : ℕ). Some k) (sole_sender s (knowledge s claims) g.ident.sa u flow.sender inside
         (may_be_planned s (knowledge s claims) flow.sender g.ident.sa unit unit_at planned (unheard s claims flow.sender (claims_at at))) sure);
     claims = λ number claims f packet at claim name.
@@ -468,7 +481,8 @@ module _ (s : Settings) (apart : ArePlannedApart (units_of s.plan)) (written tim
   its_period : HasPeriodMs s.plan f pace.period
   its_period = record { flow = flow; its = is.its; pace = pace; paced = is.paced; is = refl; unasked = is.unasked }
 
-  keeps_period : KeepsItsPeriod s.plan timing bus (planned_held s.plan apart) f pace.period (late_sent s.plan timing apart f flow pace group is).release (λ p. true)
+  keeps_period : KeepsItsPeriod s.plan timing bus (planned_held s.plan apart) f pace.period (late_sent s.plan timing apart f flow pace group is).release
+      (λ p. true)
   unfolding its_period
   keeps_period = record {
     period = its_period;

@@ -12,7 +12,8 @@ use Rattle.j39_audit.specs.Claiming.{Knowledge, was_asked_for}
 use Rattle.j39_audit.specs.Counting.{Noted}
 use Rattle.j39_audit.specs.Looking.{message_sent, request_noted, requested, told, answers_request, answer_noted, answer_of, asked_noted, besides_noted}
 use Rattle.j39_audit.specs.Looking.{announced_by, announced_message, is_single, single}
-use Rattle.j39_audit.specs.SentMessages.{SentMessage, all_marked, deviation, flow_group, flows_noted, is_nearest_flow, is_nearest_request, is_of, marked, noted_at, requests_noted, with_fit_flow, without_flow, is_fit, first_group}
+use Rattle.j39_audit.specs.SentMessages.{SentMessage, all_marked, deviation, flow_group, flows_noted, is_nearest_flow, is_nearest_request, is_of, marked}
+use Rattle.j39_audit.specs.SentMessages.{noted_at, requests_noted, with_fit_flow, without_flow, is_fit, first_group}
 use Rattle.j39_audit.specs.declared.messages.Test.TheVariants.{Fitting, Selected, Any}
 use Rattle.j39_id.specs.Ident.{pgn_of}
 use Rattle.j39_id.specs.FrameMeaning.{requests_group}
@@ -20,7 +21,9 @@ use Rattle.j39_tp.specs.declared.packet.Packet.TheVariants.{Rts, Cts, EndAck, Ba
 use Rattle.j39_audit.specs.Settings.{Settings}
 use Rattle.j39_audit.specs.declared.mark.Mark.{Mark}
 use Rattle.j39_audit.specs.declared.mark.Word.{Word}
-use Rattle.j39_audit.specs.declared.mark.Word.TheVariants.{Short, Stranger, Nobody as NobodyThere, Address, Cannot, Layout, NoFlow, Priority, Urgent, Seen, Unclear, Asked, Counted, Unsure, Break, NearFlow, NearRequest, SilentFlow, Deaf, NearPackets, SilentPackets, NearOrLate, SilentOrLate, Answered, Answers, Besides}
+use Rattle.j39_audit.specs.declared.mark.Word.TheVariants.{Short, Stranger, Nobody as NobodyThere, Address, Cannot, Layout, NoFlow, Priority, Urgent, Seen}
+use Rattle.j39_audit.specs.declared.mark.Word.TheVariants.{Unclear, Asked, Counted, Unsure, Break, NearFlow, NearRequest, SilentFlow, Deaf, NearPackets}
+use Rattle.j39_audit.specs.declared.mark.Word.TheVariants.{SilentPackets, NearOrLate, SilentOrLate, Answered, Answers, Besides}
 use Rattle.j39_audit_laws.specs.FoundLines.{IsAccusing}
 use Rattle.j39_audit_laws.proofs.Hits.{HaveWords, In, words_below}
 

@@ -16,8 +16,11 @@ use Rattle.j39_audit.specs.AuditText.{claims_before, gap_before, noted_newly}
 use Rattle.j39_audit.specs.Claiming.{knowledge}
 use Rattle.j39_audit.specs.Counting.{Key, Noted, is_same_key, key_of}
 use Rattle.j39_audit.specs.Looking.{is_single}
-use Rattle.j39_audit.specs.MessageStreams.{asked_stream, flow_pace, flow_stream, group_in_flow, is_in_stream, nothing_sighted, paced_stream, request_period, request_priority, sighted_behind, sighted_stream, stream_mark, stream_pause}
-use Rattle.j39_audit.specs.Moments.{Moments, all_pauses_ended, begins_anew, begun_anew, ends_with, listed_pauses_ended, moment_window, moments_behind, near_noted, pause_ended, pauses_dropped, pauses_ended, silence_behind, silent_noted, since_behind, with_counted, with_deviating, with_ending, with_frame_of, with_message, with_moment, with_pause, with_stream, with_time}
+use Rattle.j39_audit.specs.MessageStreams.{asked_stream, flow_pace, flow_stream, group_in_flow, is_in_stream, nothing_sighted, paced_stream, request_period}
+use Rattle.j39_audit.specs.MessageStreams.{request_priority, sighted_behind, sighted_stream, stream_mark, stream_pause}
+use Rattle.j39_audit.specs.Moments.{Moments, all_pauses_ended, begins_anew, begun_anew, ends_with, listed_pauses_ended, moment_window, moments_behind}
+use Rattle.j39_audit.specs.Moments.{near_noted, pause_ended, pauses_dropped, pauses_ended, silence_behind, silent_noted, since_behind, with_counted}
+use Rattle.j39_audit.specs.Moments.{with_deviating, with_ending, with_frame_of, with_message, with_moment, with_pause, with_stream, with_time}
 use Rattle.j39_audit.specs.Near.{candidate, earliest_next, excess}
 use Rattle.j39_audit.specs.Pauses.{ending_of, unclear_behind}
 use Rattle.j39_audit.specs.Settings.{Settings}
@@ -180,7 +183,8 @@ module _ (b : Settings) (t : Timing) (timed : b.plan.timing ≡ Some t) (n : ℕ
     where
       paced : (group : GroupPlan) (pace : Pace) → paced_stream b t f k group pace (stream_pause b t k) ≡ Some x → x.mark ≡ stream_mark NearFlow k
       paced group pace is = elim (cases_Bool (is_in_stream group (is_single (pgn_of f.ident)))) [
-        | inl inside ↦ sym (ap (λ (y : MessageStream). y.mark) (same_Some _ x (sym (cond-true (is_in_stream group (is_single (pgn_of f.ident))) _ None inside) ∙ is)))
+        | inl inside ↦ sym (ap (λ (y : MessageStream). y.mark) (same_Some _ x
+            (sym (cond-true (is_in_stream group (is_single (pgn_of f.ident))) _ None inside) ∙ is)))
         | inr other ↦ absurd (none-some x (sym (cond-false (is_in_stream group (is_single (pgn_of f.ident))) _ None other) ∙ is))
       ]
 
@@ -197,7 +201,8 @@ module _ (b : Settings) (t : Timing) (timed : b.plan.timing ≡ Some t) (n : ℕ
     pub stream : MessageStream
     pub stream_is : flow_stream b t f n ≡ Some stream
     pub earliest : new.earliest key ≡ earliest_next stream.step (m.earliest key) (moment_window b stream.slack time m.since)
-    pub noted : excess (candidate stream.step (m.earliest key) (moment_window b stream.slack time m.since)) (moment_window b stream.slack time m.since).upper ≡ None
+    pub noted : excess (candidate stream.step (m.earliest key) (moment_window b stream.slack time m.since)) (moment_window b stream.slack time m.since).upper
+        ≡ None
         → hits mark new.untimely ≡ hits mark m.untimely
     pub since : new.since ≡ m.since
     pub before : new.before ≡ m.before
@@ -317,7 +322,8 @@ module _ (b : Settings) (t : Timing) (timed : b.plan.timing ≡ Some t) (n : ℕ
       pub stream : MessageStream
       pub stream_is : flow_stream b t f n ≡ Some stream
       pub earliest : new.earliest key ≡ earliest_next stream.step (begun m) (moment_window b stream.slack time new.since)
-      pub noted : excess (candidate stream.step (begun m) (moment_window b stream.slack time new.since)) (moment_window b stream.slack time new.since).upper ≡ None
+      pub noted : excess (candidate stream.step (begun m) (moment_window b stream.slack time new.since)) (moment_window b stream.slack time new.since).upper
+          ≡ None
           → hits mark new.untimely ≡ hits mark m.untimely
 
     pub record IsOtherFrame (m new : Moments) : Type 0 where
@@ -342,7 +348,8 @@ module _ (b : Settings) (t : Timing) (timed : b.plan.timing ≡ Some t) (n : ℕ
         let fourth : Moments = with_stream b time line sighting.besides (sighted_stream b t f sighting.flow sighting.request) third in
         let fifth : Moments = with_counted b sighting.unit line fourth in
         let before : IsAsNear first third = deviating_near sighting.deviating sighting.unit first (listed_pauses_ended b t unclear (length unclear) second)
-        (near_more first second (listed_pauses_ended b t unclear (length unclear) second) (ending_near ending first) (listed_near unclear (length unclear) second)) in
+        (near_more first second (listed_pauses_ended b t unclear (length unclear) second) (ending_near ending first)
+        (listed_near unclear (length unclear) second)) in
         let behind : IsAsNear fourth fifth = counted_near sighting.unit line fourth in
         let was = begins m in
         let from : third.earliest key ≡ begun m = before.earliest ∙ was.0 in
@@ -369,8 +376,10 @@ module _ (b : Settings) (t : Timing) (timed : b.plan.timing ≡ Some t) (n : ℕ
                       ∙ ap (λ (o : Option ℕ). earliest_next step o (moment_window b slack time third.since)) from
                       ∙ ap (λ (o : Option ℕ). earliest_next step (begun m) (moment_window b slack time o)) since;
                   noted = λ fits. behind.noted ∙ is.noted
-                      (ap (λ (o : Option ℕ). excess (candidate step o (moment_window b slack time third.since)) (moment_window b slack time third.since).upper) from
-                      ∙ ap (λ (o : Option ℕ). excess (candidate step (begun m) (moment_window b slack time o)) (moment_window b slack time o).upper) since ∙ fits)
+                      (ap (λ (o : Option ℕ). excess (candidate step o (moment_window b slack time third.since))
+                      (moment_window b slack time third.since).upper) from
+                      ∙ ap (λ (o : Option ℕ). excess (candidate step (begun m) (moment_window b slack time o))
+                      (moment_window b slack time o).upper) since ∙ fits)
                       ∙ kept;
                 }),
               )
@@ -407,7 +416,8 @@ module _ (b : Settings) (t : Timing) (timed : b.plan.timing ≡ Some t) (n : ℕ
     pub goes_on : (m : Moments) → anew ≡ false → ((begun_anew b anew gap m).before ≡ m.before) × ((begun_anew b anew gap m).since ≡ m.since)
     goes_on m is =
         elim anew as (λ a. a ≡ false → ((cond a (record (all_pauses_ended b m) { before = None; since = None; earliest = λ key. None })
-        (cond gap (all_pauses_ended b m) m)).before ≡ m.before) × ((cond a (record (all_pauses_ended b m) { before = None; since = None; earliest = λ key. None })
+        (cond gap (all_pauses_ended b m) m)).before ≡ m.before) × ((cond a
+        (record (all_pauses_ended b m) { before = None; since = None; earliest = λ key. None })
         (cond gap (all_pauses_ended b m) m)).since ≡ m.since)) [
           | true ↦ λ e. absurd (true≢false e)
           | false ↦ λ _. elim gap as (λ c. ((cond c (all_pauses_ended b m) m).before ≡ m.before) × ((cond c (all_pauses_ended b m) m).since ≡ m.since)) [

@@ -152,7 +152,8 @@ module _ (s : Settings) (log : List Line) (t : Timing) (timed : s.plan.timing �
               let (step_is, slack_is) = its_stream one.f near.stream near.stream_is in
               let lower : (moment_window b near.stream.slack time new.since).lower ≡ Some (earliest_end b time - slack) =
               ap (λ (o : Option ℕ). lower_bound o new.since) slack_is ∙ ap (lower_bound (Some slack)) since.0 in
-              by_message s log place is_message IsUpper IsLower b t timed n step none_of_these number past.by_load so_far there time new near step_is l (seen (number + 1) l near.seen) (time_shifted time at)
+              by_message s log place is_message IsUpper IsLower b t timed n step none_of_these number past.by_load so_far there time new near step_is l
+              (seen (number + 1) l near.seen) (time_shifted time at)
               (λ x is. end_shifted time at x (same_Some x (earliest_end b time - slack) (sym is ∙ lower)))
         ]
       where
@@ -191,7 +192,8 @@ module _ (s : Settings) (log : List Line) (t : Timing) (timed : s.plan.timing �
 
   more : (number : ℕ) (past next : AuditPast) → Holds number past → IsNext s log (number + 1) past next → Holds (number + 1) next
   more number past next is (count, inl passed) =
-      subst (IsKept (number + 1)) (sym passed.load_is) (kept_on number past.by_load past.by_load (record { earliest = refl; noted = refl; since = refl; before = refl }) is)
+      subst (IsKept (number + 1)) (sym passed.load_is) (kept_on number past.by_load past.by_load
+      (record { earliest = refl; noted = refl; since = refl; before = refl }) is)
   more number past next is (count, inr (inl gap)) =
       subst (IsKept (number + 1)) (sym gap.load_is)
       (with_gap (number + 1) past.by_load (kept_on number past.by_load past.by_load (record { earliest = refl; noted = refl; since = refl; before = refl }) is))

@@ -17,7 +17,8 @@ use Rattle.j39_timing.specs.Messages.{frame_end}
 use Rattle.j39_timing.specs.TimedFrames.{Schedule}
 use Rattle.j39_load.specs.BusTimes.{with_claims}
 use Rattle.j39_load.specs.Clocks.{bit_time}
-use Rattle.j39_audit.specs.AuditText.{AuditPast, AuditsLines, look_at, log_ended, mark_at, broadcasts_there, counted_for, moments_with_frame, nothing_read, noted_newly}
+use Rattle.j39_audit.specs.AuditText.{AuditPast, AuditsLines, look_at, log_ended, mark_at, broadcasts_there, counted_for, moments_with_frame, nothing_read}
+use Rattle.j39_audit.specs.AuditText.{noted_newly}
 use Rattle.j39_audit.specs.Counting.{Noted, key_of, reported_at, occurrences_of}
 use Rattle.j39_audit.specs.Looking.{is_single}
 use Rattle.j39_audit.specs.MessageStreams.{flow_pace, flow_stream, group_in_flow, is_in_stream, paced_stream, stream_pause, nothing_sighted, sighted_behind}
@@ -41,7 +42,8 @@ use Rattle.j39_load.specs.SentFrames.{Held}
 use Rattle.j39_audit.specs.BegunBroadcasts.{packet_with}
 use Rattle.j39_audit.specs.MessageStreams.{queued_within_ms, slack_by, stream_mark}
 use Rattle.j39_audit.specs.UnitTimes.{longest_us}
-use Rattle.j39_audit.specs.Moments.{begun_anew, damaged_at_once, idle_behind, idle_mark, is_apart, leaves_idle, reach_back, shows_idle, since_behind, since_by, with_packet_stream}
+use Rattle.j39_audit.specs.Moments.{begun_anew, damaged_at_once, idle_behind, idle_mark, is_apart, leaves_idle, reach_back, shows_idle, since_behind, since_by}
+use Rattle.j39_audit.specs.Moments.{with_packet_stream}
 use Rattle.j39_audit.specs.declared.by_load.Bound.{Bound}
 use Rattle.j39_audit.specs.declared.by_load.Bound.TheVariants.{Bus}
 use Rattle.j39_audit.specs.declared.mark.Word.TheVariants.{NearPackets}
@@ -114,7 +116,8 @@ module _ (s : Settings) (log : List Line) (t : Timing) (timed : s.plan.timing �
       let of_pace : pace ≡ part.period.pace = same_Some pace part.period.pace
       (sym paced ∙ ap (λ (o : Option FlowPlan). option_and_then (λ (y : FlowPlan). y.pace) o) part.period.its ∙ part.period.paced) in
       let of_group : group ≡ part.group = same_Some group part.group
-      (sym grouped ∙ ap (λ (o : Option FlowPlan). option_and_then (λ (y : FlowPlan). slice_get s.plan.groups.items y.group) o) part.period.its ∙ part.group_is) in
+      (sym grouped ∙ ap (λ (o : Option FlowPlan). option_and_then
+      (λ (y : FlowPlan). slice_get s.plan.groups.items y.group) o) part.period.its ∙ part.group_is) in
       let is = of_stream group pace e2 in (
         is.0 ∙ ap (λ (p : Pace). shortest_us timing p.period) of_pace ∙ ap (shortest_us timing) part.period.is,
         is.1 ∙ ap Some (ap (λ (p : Pace). longest_us timing (queued_within_ms p (nat_le group.most 8))) of_pace
@@ -157,7 +160,8 @@ module _ (s : Settings) (log : List Line) (t : Timing) (timed : s.plan.timing �
         | inl less ↦ inl (behind timing.bitrate timing.drift ms (release p) (release q) none less)
         | inr less ↦ inr (behind timing.bitrate timing.drift ms (release q) (release p) none less)
       ])
-      (as_lines s log place is_message IsUpper IsLower bus clock is_log number count line windows are) (record { upper = are.upper; lower = are.lower }) j inside)
+      (as_lines s log place is_message IsUpper IsLower bus clock is_log number count line windows are)
+      (record { upper = are.upper; lower = are.lower }) j inside)
 
   -- ---- what holds behind each line
 
@@ -255,7 +259,8 @@ module _ (s : Settings) (log : List Line) (t : Timing) (timed : s.plan.timing �
         time = is.time;
         shows = is.shows;
         by = elim (cases_eq is.line number) [
-          | inl here ↦ (let same : frame_end bus (place is.line) ≡ frame_end bus (place number) = ap (λ (k : ℕ). frame_end bus (place k)) here in omega (arith, same))
+          | inl here ↦ (let same : frame_end bus (place is.line) ≡ frame_end bus (place number) = ap (λ (k : ℕ). frame_end bus (place k)) here
+              in omega (arith, same))
           | inr apart ↦
               let below = is.below in
               let less = is_log.in_turn is.line number is.there l (omega (arith, below, apart)) in
@@ -368,7 +373,8 @@ module _ (s : Settings) (log : List Line) (t : Timing) (timed : s.plan.timing �
             | inl other ↦ by_other_frame new other
             | inr near ↦
                 let (step_is, slack_is) = its_stream one.f near.stream near.stream_is in
-                by_message s log place is_message IsUpper IsLower s t timed n step none_of_these number m far.kept there time new near step_is l (seen (number + 1) l near.seen) (time_shifted time at)
+                by_message s log place is_message IsUpper IsLower s t timed n step none_of_these number m far.kept there time new near step_is l
+                (seen (number + 1) l near.seen) (time_shifted time at)
                 (λ x is. bound_by (number + 1) x new.since l mark (sym (ap (λ (o : Option ℕ). lower_bound o new.since) slack_is) ∙ is))
           ];
           last = λ τ e.
@@ -395,7 +401,8 @@ module _ (s : Settings) (log : List Line) (t : Timing) (timed : s.plan.timing �
         }
 
     -- and with a packet of a broadcast
-    with_stream_of : (time : Option ℕ) (line : ℕ) (o : Option MessageStream) (new : Moments) → ((x : MessageStream) → o ≡ Some x → x.mark ≢ frames.mark s t timed n)
+    with_stream_of : (time : Option ℕ) (line : ℕ) (o : Option MessageStream) (new : Moments)
+        → ((x : MessageStream) → o ≡ Some x → x.mark ≢ frames.mark s t timed n)
         → IsHeld (number + 1) new → IsHeld (number + 1) (with_packet_stream s time line o new)
     with_stream_of None line o new other is = is
     with_stream_of (Some time) line None new other is = is
@@ -420,14 +427,16 @@ module _ (s : Settings) (log : List Line) (t : Timing) (timed : s.plan.timing �
     by_frame : IsHeld (number + 1) next.moments
     by_frame =
         let time : Option ℕ = time_there l in
-        let packet : Option MessageStream = packet_with s.plan.timing (counted_for s one.at.past time one.f one.packet) one.f (broadcasts_there s one.at.past time one.f) in
+        let packet : Option MessageStream = packet_with s.plan.timing (counted_for s one.at.past time one.f one.packet) one.f
+        (broadcasts_there s one.at.past time one.f) in
         let held_there : IsHeld (number + 1) (with_frame time) = elim (time_there l) as (λ o. time_there l ≡ o → IsHeld (number + 1) (with_frame o)) [
           | None ↦ λ at. by_no_time at
           | Some τ ↦ λ at. by_time τ at
         ] refl in
         let load : next.moments ≡ with_packet_stream s time one.at.past.number packet (with_frame time) =
         ap (λ (p : AuditPast). p.moments) one.next_is ∙ moments_with s one.at.past time one.at.named one.f one.packet
-        ∙ ap (λ (p : AuditPast). with_packet_stream s time one.at.past.number packet (moments_with_frame s s one.at.past time one.f one.packet p.moments)) one.past_is in
+        ∙ ap (λ (p : AuditPast). with_packet_stream s time one.at.past.number packet
+        (moments_with_frame s s one.at.past time one.f one.packet p.moments)) one.past_is in
         subst (IsHeld (number + 1)) (sym load)
         (with_stream_of time one.at.past.number packet (with_frame time)
         (λ x is same. (let (u, at) = packet_mark s.plan.timing (counted_for s one.at.past time one.f one.packet) one.f
@@ -462,7 +471,8 @@ module _ (s : Settings) (log : List Line) (t : Timing) (timed : s.plan.timing �
 
       by_time : {at : ℕ} (l : FrameLine s log at) (m : Moments) (seen_there : frames.FrameThere) (time : Option ℕ) → time_there l ≡ time → (taken : TakenFrame)
           → taken_frame time l.f l.at.past.number (sighted_behind nothing_sighted (noted_newly s l.at.past (time_there l) l.f l.packet)) ≡ Some taken
-          → next.moments.before ≡ (moments_behind s seen_there.gap seen_there.anew time seen_there.f seen_there.line seen_there.notes seen_there.ending m).before
+          → next.moments.before
+          ≡ (moments_behind s seen_there.gap seen_there.anew time seen_there.f seen_there.line seen_there.notes seen_there.ending m).before
           → (τ : ℕ) × (next.moments.before ≡ Some τ)
       by_time l m seen_there None at taken is before = absurd (none-some taken is)
       by_time l m seen_there (Some τ) at taken is before = (τ, before ∙ (frames.timed_frame s t timed n seen_there τ m).0.1)

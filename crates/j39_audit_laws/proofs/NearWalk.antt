@@ -24,7 +24,8 @@ with_window j window windows k = cond (k == j) window (windows k)
 abbrev pub with_line : ℕ → ℕ → (ℕ → ℕ) → ℕ → ℕ
 with_line j line lines k = cond (k == j) line (lines k)
 
-pub same_below : (step j : ℕ) (window : Window) (windows : ℕ → Window) (i : ℕ) → i ≤ j → earliest step (with_window j window windows) i ≡ earliest step windows i
+pub same_below : (step j : ℕ) (window : Window) (windows : ℕ → Window) (i : ℕ) → i ≤ j
+    → earliest step (with_window j window windows) i ≡ earliest step windows i
 unfolding earliest
 same_below step j window windows zero least = refl
 same_below step j window windows (suc i) least =

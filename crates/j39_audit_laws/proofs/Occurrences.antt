@@ -7,12 +7,15 @@ use Rattle.std.proofs.lemmas.List.{append_cancel_left, append-nil, length-append
 use Rattle.std.proofs.lemmas.List.Elements.{Contains-append_left, Contains-get_or, Contains-push, Contains-push_cases}
 use Rattle.std.proofs.lemmas.List.Quantifiers.{all_pairs_push}
 use Rattle.j39_id.specs.Lines.{Line}
-use Rattle.j39_audit.specs.AuditText.{AuditPast, AuditsLine, AuditsLines, is_of_asking, is_of_broadcasts, is_of_moments, look_at, nothing_read, is_of_load, mark_by_bus}
+use Rattle.j39_audit.specs.AuditText.{AuditPast, AuditsLine, AuditsLines, is_of_asking, is_of_broadcasts, is_of_moments, look_at, nothing_read, is_of_load}
+use Rattle.j39_audit.specs.AuditText.{mark_by_bus}
 use Rattle.j39_audit.specs.Counting.{Noted, most_times, reported_at, reported_in, occurrences_of}
 use Rattle.j39_audit.specs.Settings.{Settings}
 use Rattle.j39_audit.specs.declared.mark.Mark.{Mark}
 use Rattle.j39_audit.specs.declared.mark.Word.{Word}
-use Rattle.j39_audit.specs.declared.mark.Word.TheVariants.{Short, Stranger, Nobody as NobodyThere, Address, Cannot, Layout, NoFlow, Priority, Urgent, Seen, Unclear, Asked, Counted, Unsure, Break, NearFlow, NearRequest, SilentFlow, Deaf, NearPackets, SilentPackets, NearOrLate, SilentOrLate, Answered, Answers, Besides}
+use Rattle.j39_audit.specs.declared.mark.Word.TheVariants.{Short, Stranger, Nobody as NobodyThere, Address, Cannot, Layout, NoFlow, Priority, Urgent, Seen}
+use Rattle.j39_audit.specs.declared.mark.Word.TheVariants.{Unclear, Asked, Counted, Unsure, Break, NearFlow, NearRequest, SilentFlow, Deaf, NearPackets}
+use Rattle.j39_audit.specs.declared.mark.Word.TheVariants.{SilentPackets, NearOrLate, SilentOrLate, Answered, Answers, Besides}
 use Rattle.j39_audit.specs.declared.tally.Occurrences.{Occurrences}
 use Rattle.j39_audit.proofs.Hearing.{line_more}
 use Rattle.j39_audit_laws.specs.FoundLines.{IsAccusing, IsFoundAt, IsLineOf, LinesAreOfLog, IsReportedAt}
@@ -87,7 +90,8 @@ module _ (s : Settings) (log : List Line) (m : Mark) (accuses : IsAccusing m.wor
               | inl inside ↦ stated.complete n found inside
               | inr above ↦
                   let is : n ≡ length before + 1 = omega (arith, long, less, above) in
-                  let grows = found_grows s log m accuses before past line behind next row read takes stated.count (subst (λ (k : ℕ). IsFoundAt s log k m) is found) in
+                  let grows = found_grows s log m accuses before past line behind next row read takes stated.count
+                  (subst (λ (k : ℕ). IsFoundAt s log k m) is found) in
                   absurd (no_more (hits m past.noted) grows.0 grows.1 (sym same ∙ grows.2))
             ]);
           }
@@ -202,4 +206,5 @@ looked end m is =
 
 pub lines_are_of_log : LinesAreOfLog
 lines_are_of_log s log end read m accuses =
-    subst (IsReportedAt s log m) (looked end m accuses) (states s log m accuses end (all_stated s log m accuses [] log nothing_read end refl refl (none_read s log m accuses) read))
+    subst (IsReportedAt s log m) (looked end m accuses) (states s log m accuses end
+    (all_stated s log m accuses [] log nothing_read end refl refl (none_read s log m accuses) read))

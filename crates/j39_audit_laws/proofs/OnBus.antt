@@ -1,5 +1,6 @@
 -- Streams on a bus that keep their period, or their pause, are not reported.
-use Rattle.std.proofs.Common.{◌≡◌, ◌≢◌, ℕ, zero, suc, ◌+◌, ◌-◌, ◌*◌, ◌<◌, ◌≤◌, ◌⊎◌, Bool, false, ◌&&◌, ltb, refl, subst, sym, ap, ◌∙◌, arith, inl, inr, Option, Some}
+use Rattle.std.proofs.Common.{◌≡◌, ◌≢◌, ℕ, zero, suc, ◌+◌, ◌-◌, ◌*◌, ◌<◌, ◌≤◌, ◌⊎◌, Bool, false, ◌&&◌, ltb, refl, subst, sym, ap, ◌∙◌, arith, inl, inr, Option}
+use Rattle.std.proofs.Common.{Some}
 use Rattle.std.proofs.Math.Nat.{mul-le-mul_left}
 use Rattle.std.proofs.lemmas.Bool.{and_from, and_parts, cases_eq, cases_lt, lt-ltb, ltb-true}
 use Rattle.j39_timing.specs.Messages.{frame_end}
@@ -115,7 +116,8 @@ kept_periods s us period n clock is_message release frame windows one keeps firs
           let most = bounds.upper j inside in
           omega (arith, rise, most);
     } in
-    let steps : (a b : ℕ) → a * us + 1000 * period ≤ b * us → (clock a + 1000 * (999 * period) ≤ clock b) ⊎ (clock b + 1000 * (999 * period) ≤ clock a) = λ a b behind.
+    let steps : (a b : ℕ) → a * us + 1000 * period ≤ b * us → (clock a + 1000 * (999 * period) ≤ clock b)
+    ⊎ (clock b + 1000 * (999 * period) ≤ clock a) = λ a b behind.
     elim (not_before us a b (1000 * period) behind) [
       | inl less ↦ let far = at_least us clock keeps a b (1000 * period) behind less in inl (omega (arith, far))
       | inr none ↦

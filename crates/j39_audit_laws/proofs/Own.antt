@@ -17,16 +17,20 @@ use Rattle.j39_tp.specs.declared.packet.Packet.{Packet}
 use Rattle.j39_audit.specs.AuditText.{Look, groups_named, line_of_mark, line_reported, look_at, mark_at, subject_lines, reported_mark}
 use Rattle.j39_audit.specs.Below.{each_below}
 use Rattle.j39_audit.specs.Claiming.{HeardClaims, Knowledge, knowledge, was_asked_for}
-use Rattle.j39_audit.specs.Looking.{is_above_unplanned, is_claim, is_of_own_group, is_of_transport, is_single, is_urgent, may_be_transport, single, told, answers_request, is_answer}
+use Rattle.j39_audit.specs.Looking.{is_above_unplanned, is_claim, is_of_own_group, is_of_transport, is_single, is_urgent, may_be_transport, single, told}
+use Rattle.j39_audit.specs.Looking.{answers_request, is_answer}
 use Rattle.j39_audit.specs.SentMessages.{first_group}
 use Rattle.j39_audit.specs.Settings.{AreMoving, Settings}
 use Rattle.j39_audit.specs.declared.mark.Mark.{Mark}
 use Rattle.j39_audit.specs.declared.mark.Word.{Word}
-use Rattle.j39_audit.specs.declared.mark.Word.TheVariants.{Short, Stranger, Nobody as NobodyThere, Address, Cannot, Layout, NoFlow, Priority, Urgent, Seen, Unclear, Asked, Counted, Unsure, Break, NearFlow, NearRequest, SilentFlow, Deaf, NearPackets, SilentPackets, NearOrLate, SilentOrLate, Answered, Answers, Besides}
+use Rattle.j39_audit.specs.declared.mark.Word.TheVariants.{Short, Stranger, Nobody as NobodyThere, Address, Cannot, Layout, NoFlow, Priority, Urgent, Seen}
+use Rattle.j39_audit.specs.declared.mark.Word.TheVariants.{Unclear, Asked, Counted, Unsure, Break, NearFlow, NearRequest, SilentFlow, Deaf, NearPackets}
+use Rattle.j39_audit.specs.declared.mark.Word.TheVariants.{SilentPackets, NearOrLate, SilentOrLate, Answered, Answers, Besides}
 use Rattle.j39_audit.specs.declared.messages.Test.TheVariants.{Any}
 use Rattle.j39_audit.specs.declared.tally.Occurrences.{Occurrences}
 use Rattle.j39_audit_laws.specs.FoundLines.{Differs, IsAccusing, IsFoundAt, IsFrameAt, IsAccusedAs, IsReportedAt}
-use Rattle.j39_audit_laws.specs.OwnPart.{AlwaysCan, AreItsOwn, ClaimsItsOwn, ClaimsWhereItMay, IsByThePlan, IsItsNumber, IsNotNamed, LooksAsPlanned, SaysCannotWhereItHasTo, SentBy, WaitsForPlanned, LooksPlannedOrAsked, OfItsFrames, IsOfFlowPlanned}
+use Rattle.j39_audit_laws.specs.OwnPart.{AlwaysCan, AreItsOwn, ClaimsItsOwn, ClaimsWhereItMay, IsByThePlan, IsItsNumber, IsNotNamed, LooksAsPlanned}
+use Rattle.j39_audit_laws.specs.OwnPart.{SaysCannotWhereItHasTo, SentBy, WaitsForPlanned, LooksPlannedOrAsked, OfItsFrames, IsOfFlowPlanned}
 use Rattle.j39_audit_laws.proofs.Planned.{at_place, claims_so, differing_number, its_address, place_at, planned_alike, some_group}
 use Rattle.j39_audit_laws.proofs.Marking.{sender_of, told_is}
 use Rattle.j39_audit_laws.proofs.Occurrences.{lines_are_of_log}
@@ -252,5 +256,6 @@ waits_for_planned s log sent u moving own keeps =
       | inr (from, urgent) ↦
           let above = (and_parts (is_above_unplanned s f) (not (is_of_transport s f) && not (is_of_own_group s u f)) urgent).0 in
           let (t, timed, less) = above_so s f above in
-          urgent_unplanned s t u f timed urgent (keeps n claims f packet at (own.frames n claims f packet at from.other from.address from.sender_is) t timed less)
+          urgent_unplanned s t u f timed urgent (keeps n claims f packet at
+          (own.frames n claims f packet at from.other from.address from.sender_is) t timed less)
     ])

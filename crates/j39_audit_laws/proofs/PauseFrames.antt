@@ -16,8 +16,11 @@ use Rattle.j39_network.specs.declared.plan.timing.Timing.{Timing}
 use Rattle.j39_network.specs.declared.plan.to.To.TheVariants.{One as ToOne}
 use Rattle.j39_audit.specs.Counting.{Noted}
 use Rattle.j39_audit.specs.Looking.{is_single}
-use Rattle.j39_audit.specs.MessageStreams.{asked_stream, nothing_sighted, sighted_behind, flow_pace, flow_pause, flow_pause_of, flow_stream, group_in_flow, is_in_stream, paced_stream, request_period, request_priority, shows_silence, sighted_stream, stream_pause}
-use Rattle.j39_audit.specs.Moments.{Moments, all_pauses_ended, begun_anew, earliest_end, listed_pauses_ended, long_before, lower_bound, moment_window, moments_behind, newest_moment, silent_noted, with_counted, with_deviating, with_ending, with_frame_of, with_message, with_moment, with_pause, with_stream, with_time, with_message_of}
+use Rattle.j39_audit.specs.MessageStreams.{asked_stream, nothing_sighted, sighted_behind, flow_pace, flow_pause, flow_pause_of, flow_stream, group_in_flow}
+use Rattle.j39_audit.specs.MessageStreams.{is_in_stream, paced_stream, request_period, request_priority, shows_silence, sighted_stream, stream_pause}
+use Rattle.j39_audit.specs.Moments.{Moments, all_pauses_ended, begun_anew, earliest_end, listed_pauses_ended, long_before, lower_bound, moment_window}
+use Rattle.j39_audit.specs.Moments.{moments_behind, newest_moment, silent_noted, with_counted, with_deviating, with_ending, with_frame_of, with_message}
+use Rattle.j39_audit.specs.Moments.{with_moment, with_pause, with_stream, with_time, with_message_of}
 use Rattle.j39_audit.specs.Pauses.{stands_for, unclear_behind}
 use Rattle.j39_audit.specs.Settings.{Settings, by_load as judged_by_load, logger_error, response_of, units_planned}
 use Rattle.j39_audit.specs.Silence.{lag, latest_next, lies_behind, within_pause}
@@ -30,7 +33,8 @@ use Rattle.j39_audit.specs.declared.tally.Sighting.{Sighting}
 use Rattle.j39_audit.specs.declared.window.Window.{Window}
 use Rattle.j39_audit_laws.specs.SilentFlows.{IsEndOfFlow}
 use Rattle.j39_audit_laws.proofs.Hits.{In, in_left}
-use Rattle.j39_audit_laws.proofs.PauseSteps.{AreOthers, AreShown, EndsIt, IsOpen, IsSame, IsStated, Keeps, Watched, all_keep, all_stated, bound, claimed, ending_keeps, lags_since, listed, listed_keep, same_more, same_open, same_shown, stated_by, reported_on}
+use Rattle.j39_audit_laws.proofs.PauseSteps.{AreOthers, AreShown, EndsIt, IsOpen, IsSame, IsStated, Keeps, Watched, all_keep, all_stated, bound, claimed}
+use Rattle.j39_audit_laws.proofs.PauseSteps.{ending_keeps, lags_since, listed, listed_keep, same_more, same_open, same_shown, stated_by, reported_on}
 use Rattle.j39_run_laws.proofs.Addresses.CleanEnds.{flow_at}
 
 module _ (plain : Settings) (w : Watched (judged_by_load plain)) where
@@ -102,7 +106,8 @@ module _ (plain : Settings) (w : Watched (judged_by_load plain)) where
       ap (λ (o : Option FlowPlan). option_and_then (λ (x : FlowPlan). slice_get s.plan.groups.items x.group) o) w.flow_is ∙ at in
       let stream : Option MessageStream = paced_stream s t f n group pace (stream_pause s t n) in
       let is : flow_stream s t f n ≡ stream =
-      ap (λ (o : Option Pace). option_and_then (λ (x : Pace). option_and_then (λ (g : GroupPlan). paced_stream s t f n g x (stream_pause s t n)) (group_in_flow s n)) o) of_pace
+      ap (λ (o : Option Pace). option_and_then (λ (x : Pace). option_and_then (λ (g : GroupPlan). paced_stream s t f n g x (stream_pause s t n))
+      (group_in_flow s n)) o) of_pace
       ∙ ap (λ (o : Option GroupPlan). option_and_then (λ (g : GroupPlan). paced_stream s t f n g pace (stream_pause s t n)) o) of_group in
       none-some _ (sym none ∙ is ∙ cond-true (is_in_stream group (is_single (pgn_of f.ident))) _ None sort)
 
@@ -194,12 +199,14 @@ module _ (plain : Settings) (w : Watched (judged_by_load plain)) where
     with_messages_of f None None since is since_is late =
         inl (record { newest = refl; last = λ u end. refl; since = refl }, λ e. absurd (none-some n e))
     with_messages_of f None (Some r) since is since_is late =
-        elim (asked_stream s t f r) as (λ o. asked_stream s t f r ≡ o → (IsSame s w m (with_stream s time line besides o m) × IsUnseen f None) ⊎ IsStated s w (with_stream s time line besides o m)) [
+        elim (asked_stream s t f r) as (λ o. asked_stream s t f r ≡ o → (IsSame s w m (with_stream s time line besides o m) × IsUnseen f None)
+        ⊎ IsStated s w (with_stream s time line besides o m)) [
           | None ↦ λ _. inl (record { newest = refl; last = λ u end. refl; since = refl }, λ e. absurd (none-some n e))
           | Some x ↦ λ at. inl (same_stream x x.pause (inl (asked_parts f r x at)), λ e. absurd (none-some n e))
         ] refl
     with_messages_of f (Some k) request since is since_is late =
-        elim (flow_stream s t f k) as (λ o. flow_stream s t f k ≡ o → (IsSame s w m (with_stream s time line besides o m) × IsUnseen f (Some k)) ⊎ IsStated s w (with_stream s time line besides o m)) [
+        elim (flow_stream s t f k) as (λ o. flow_stream s t f k ≡ o → (IsSame s w m (with_stream s time line besides o m) × IsUnseen f (Some k))
+        ⊎ IsStated s w (with_stream s time line besides o m)) [
           | None ↦ λ at. inl (
             record { newest = refl; last = λ u end. refl; since = refl },
             λ e. subst (λ (i : ℕ). flow_stream s t f i ≡ None) (same_Some k n e) at,
@@ -371,7 +378,8 @@ module _ (plain : Settings) (w : Watched (judged_by_load plain)) where
 
     module _ (m : Moments) (is : IsOpen s w m) (timeless : time ≡ None → anew ≡ true)
         (shown : EndsThere → AreShown s w m)
-        (unstood : stands_for s.plan sighting.deviating sighting.unit n ≡ false) (late : sighting.flow ≡ Some n → (τ : ℕ) → time ≡ Some τ → bound s w < earliest_end s τ) where
+        (unstood : stands_for s.plan sighting.deviating sighting.unit n ≡ false)
+        (late : sighting.flow ≡ Some n → (τ : ℕ) → time ≡ Some τ → bound s w < earliest_end s τ) where
       contained : (i : ℕ) → i < length unclear → slice_index_or unclear i 0 ≡ n → Contains unclear n
       contained i less at = (i, less, get_or_default unclear i n 0 less ∙ at)
 
@@ -402,10 +410,12 @@ module _ (plain : Settings) (w : Watched (judged_by_load plain)) where
                 elim (listed s w unclear b (same_open s w a b same_b opened)
                 (λ i less here. same_shown s w a b same_b (shown (inr (inr (contained i less here))))) (length unclear) (omega arith)) [
                   | inr stated ↦ inr (reported_on s w c (with_counted s sighting.unit line d) (λ note in_c.
-                      counted_keeps sighting.unit line d note (stream_keeps τ line sighting.besides e (sighted_stream s t f sighting.flow sighting.request) note in_c)) stated)
+                      counted_keeps sighting.unit line d note (stream_keeps τ line sighting.besides e
+                      (sighted_stream s t f sighting.flow sighting.request) note in_c)) stated)
                   | inl (same_c, others) ↦
                       let both : IsSame s w a e = same_more s w a c e (same_more s w a b c same_b same_c) same_e in
-                      elim (with_messages_of τ line sighting.besides e f sighting.flow sighting.request (earliest_end s τ) (same_open s w a e both opened) both.since
+                      elim (with_messages_of τ line sighting.besides e f sighting.flow sighting.request (earliest_end s τ)
+                      (same_open s w a e both opened) both.since
                       (λ seen. late seen τ at)) [
                         | inr stated ↦ inr (reported_on s w d (with_counted s sighting.unit line d) (counted_keeps sighting.unit line d) stated)
                         | inl (same_d, unseen) ↦

@@ -12,7 +12,8 @@ use Rattle.j39_network.specs.declared.plan.to.To.{To}
 use Rattle.j39_network.specs.declared.plan.to.To.TheVariants.{All as ToAll, One as ToOne}
 use Rattle.j39_audit.specs.Counting.{Noted}
 use Rattle.j39_audit.specs.MessageStreams.{flow_pause, stream_mark}
-use Rattle.j39_audit.specs.Moments.{Moments, all_pauses_ended, ends_with, last_of_flow, listed_pauses_ended, lower_bound, pause_ended, pauses_dropped, pauses_ended, silence_behind, silent_by, silent_noted, with_ending}
+use Rattle.j39_audit.specs.Moments.{Moments, all_pauses_ended, ends_with, last_of_flow, listed_pauses_ended, lower_bound, pause_ended, pauses_dropped}
+use Rattle.j39_audit.specs.Moments.{pauses_ended, silence_behind, silent_by, silent_noted, with_ending}
 use Rattle.j39_audit.specs.Pauses.{earlier_of, goes_to_it, is_with_unit, last_of_ends}
 use Rattle.j39_audit.specs.Settings.{Settings}
 use Rattle.j39_audit.specs.Silence.{lag}
@@ -181,7 +182,8 @@ module _ (s : Settings) (w : Watched s) where
   pub lags_since : (moment : ℕ) (since : Option ℕ) (x : ℕ) → since ≡ Some x → moment ≤ w.upper → bound < x → Lags moment since
   lags_since moment since x is least late = subst (Lags moment) (sym is) (lags moment x least late)
 
-  pub stated_by : (m end : Moments) (one : Newest) (by : Option ℕ) (x : ℕ) → end.untimely ≡ m.untimely ++ silent_noted n (Some one) by → by ≡ Some x → IsStated end
+  pub stated_by : (m end : Moments) (one : Newest) (by : Option ℕ) (x : ℕ) → end.untimely ≡ m.untimely ++ silent_noted n (Some one) by → by ≡ Some x
+      → IsStated end
   stated_by m end one by x untimely is =
       let note : Noted = record { mark = stream_mark SilentFlow n; line = one.line; detail = x } in
       record {
@@ -249,11 +251,13 @@ module _ (s : Settings) (w : Watched s) where
               (subst (λ (k : ℕ). IsStated (pause_ended s t k inner)) (sym same) stated)
         ]
       where
-        one_keeps : (c : ℕ) → Keeps (pauses_ended s t unit c m) (cond (ends_with s unit c) (pause_ended s t c (pauses_ended s t unit c m)) (pauses_ended s t unit c m))
-        one_keeps c x is = elim (ends_with s unit c) as (λ b. In x (cond b (pause_ended s t c (pauses_ended s t unit c m)) (pauses_ended s t unit c m)).untimely) [
-          | true ↦ ended_keeps s t c (pauses_ended s t unit c m) x is
-          | false ↦ is
-        ]
+        one_keeps : (c : ℕ) → Keeps (pauses_ended s t unit c m) (cond (ends_with s unit c) (pause_ended s t c (pauses_ended s t unit c m))
+            (pauses_ended s t unit c m))
+        one_keeps c x is = elim (ends_with s unit c) as (λ b. In x
+            (cond b (pause_ended s t c (pauses_ended s t unit c m)) (pauses_ended s t unit c m)).untimely) [
+              | true ↦ ended_keeps s t c (pauses_ended s t unit c m) x is
+              | false ↦ is
+            ]
 
   inside : n < length s.plan.flows.items
   inside = slice_get_within s.plan.flows.items n flow w.flow_is
@@ -316,7 +320,8 @@ module _ (s : Settings) (w : Watched s) where
         | inr to ↦ true≢false (sym (ap (goes_to_it u) to ∙ eq-eqb v u (sym same)) ∙ parts.1)
       ]
 
-  pub claimed : (e : Ending) (m : Moments) → IsOpen m → (EndsIt e → AreShown m) → (IsSame m (with_ending s t e m) × (¬ EndsIt e)) ⊎ IsStated (with_ending s t e m)
+  pub claimed : (e : Ending) (m : Moments) → IsOpen m → (EndsIt e → AreShown m) → (IsSame m (with_ending s t e m) × (¬ EndsIt e))
+      ⊎ IsStated (with_ending s t e m)
   claimed Nothing m is shown = inl (same_itself m, λ ends. elim ends [ inl e ↦ cc e | inr (u, e, with_it) ↦ cc e ])
   claimed OfAll m is shown = inr (all_stated m is (shown (inl refl)))
   claimed (OfUnit u) m is shown =

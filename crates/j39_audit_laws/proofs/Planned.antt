@@ -5,7 +5,8 @@ use Rattle.std.specs.Prelude.{nat_le}
 use Rattle.std.specs.FinSet.{contains}
 use Rattle.std.specs.List.{list_any, position, position_from, slice_get}
 use Rattle.std.specs.Option.{is_some, option_map_or, option_or}
-use Rattle.std.proofs.lemmas.Bool.{MatchBool-at_true, and_from, and_parts, cases_Bool, cases_lt, cond-false, cond-true, eq-eqb, false_from_ne_true, le-leb, lt-ltb, ne_eqb, not-true, not_from_false, or_cases, or_left, or_right, true≢false}
+use Rattle.std.proofs.lemmas.Bool.{MatchBool-at_true, and_from, and_parts, cases_Bool, cases_lt, cond-false, cond-true, eq-eqb, false_from_ne_true, le-leb}
+use Rattle.std.proofs.lemmas.Bool.{lt-ltb, ne_eqb, not-true, not_from_false, or_cases, or_left, or_right, true≢false}
 use Rattle.std.proofs.lemmas.Iterator.Adapters.{position_from-zero}
 use Rattle.std.proofs.lemmas.List.Quantifiers.{position-Some}
 use Rattle.std.proofs.lemmas.Option.{none-some, same_Some, slice_get-get_or, slice_get_within}
@@ -22,7 +23,8 @@ use Rattle.j39_network.specs.declared.plan.unit_plan.UnitPlan.{UnitPlan}
 use Rattle.j39_audit.specs.Below.{first_below}
 use Rattle.j39_audit.specs.Claiming.{Knowledge, has_strangers, is_address_of, is_at, is_free_for}
 use Rattle.j39_audit.specs.Looking.{is_claiming}
-use Rattle.j39_audit.specs.SentMessages.{SentMessage, deviates, deviation, first_group, fits_group, flow_group, goes, has_flow_of, has_priority, is_fit, is_fit_group, is_group, is_of, is_own, may_hear, passes, with_fit_flow, without_flow}
+use Rattle.j39_audit.specs.SentMessages.{SentMessage, deviates, deviation, first_group, fits_group, flow_group, goes, has_flow_of, has_priority, is_fit}
+use Rattle.j39_audit.specs.SentMessages.{is_fit_group, is_group, is_of, is_own, may_hear, passes, with_fit_flow, without_flow}
 use Rattle.j39_audit.specs.Settings.{AreMoving, Settings, moves}
 use Rattle.j39_audit.specs.declared.mark.Mark.{Mark}
 use Rattle.j39_audit.specs.declared.mark.Word.TheVariants.{Priority}

@@ -10,7 +10,8 @@ use Rattle.j39_id.specs.declared.frame.Frame.{Frame}
 use Rattle.j39_tp.specs.declared.packet.Packet.{Packet}
 use Rattle.j39_audit.specs.AuditText.{look_at, mark_at, subject_lines, subjects, word_lines}
 use Rattle.j39_audit.specs.Below.{any_below}
-use Rattle.j39_audit.specs.Claiming.{Heard, HeardClaims, Knowledge, first_there, has_strangers, is_another_there, is_strange, knowledge, last_claim_of, may_be, may_stand, newest_of, sender_at, sure_sender}
+use Rattle.j39_audit.specs.Claiming.{Heard, HeardClaims, Knowledge, first_there, has_strangers, is_another_there, is_strange, knowledge, last_claim_of, may_be}
+use Rattle.j39_audit.specs.Claiming.{may_stand, newest_of, sender_at, sure_sender}
 use Rattle.j39_audit.specs.Looking.{is_claim, message_sent}
 use Rattle.j39_audit.specs.Settings.{AreMoving, Settings, moves, units_planned}
 use Rattle.j39_audit.specs.declared.mark.Word.{Word}
@@ -144,7 +145,8 @@ AreSound s frames =
 module _ (s : Settings) (moving : AreMoving s.plan s.moving) (log : List Line) (frames : List Frame) (reads : AreReadAs None log frames)
     (sound : AreSound s frames) where
   -- a claim is a unit's
-  pub its_claim : (n : ℕ) (claims : HeardClaims) (f : Frame) (packet : Option Packet) → IsFrameAt s log n claims f packet → is_claim f ≡ true → IsItsClaim s.plan f
+  pub its_claim : (n : ℕ) (claims : HeardClaims) (f : Frame) (packet : Option Packet) → IsFrameAt s log n claims f packet → is_claim f ≡ true
+      → IsItsClaim s.plan f
   its_claim n claims f packet at claim =
       let one = one_of_them s log frames reads n claims f packet at in
       let of : (before : List Frame) → IsSoundFrame s.plan before f → IsItsClaim s.plan f =

@@ -38,7 +38,8 @@ claims_stay plan old (f ∷ frames) = elim (is_claim f) as (λ b. claims_of plan
     ≡ claims_of plan (cond b (heard_of plan f ∷ []) []) frames ++ old) [
       | true ↦
           claims_stay plan (heard_of plan f ∷ old) frames
-          ∙ sym (ap (λ (l : List Heard). l ++ old) (claims_stay plan (heard_of plan f ∷ []) frames) ∙ append_assoc (claims_of plan [] frames) (heard_of plan f ∷ []) old)
+          ∙ sym (ap (λ (l : List Heard). l ++ old) (claims_stay plan (heard_of plan f ∷ []) frames) ∙ append_assoc (claims_of plan [] frames)
+          (heard_of plan f ∷ []) old)
       | false ↦ claims_stay plan old frames
     ]
 

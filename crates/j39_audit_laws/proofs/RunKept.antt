@@ -285,7 +285,8 @@ module _ (plan : Plan) (clean : Clean plan) where
           (heard.held l old u a (sym (ap (λ (s : ClaimState). s.on) same) ∙ on) (sym (ap (λ (s : ClaimState). s.address) same) ∙ address));
     }
       where
-        parts : (log : List Frame) → map sent_of log ≡ new.frames → (l : List Frame) × (map sent_of l ≡ w.frames) × (claims_of plan [] log ≡ claims_of plan [] l)
+        parts : (log : List Frame) → map sent_of log ≡ new.frames → (l : List Frame) × (map sent_of l ≡ w.frames)
+            × (claims_of plan [] log ≡ claims_of plan [] l)
         parts log e =
             let s = split sent_of log w.frames added (e ∙ is) in (
               s.0,

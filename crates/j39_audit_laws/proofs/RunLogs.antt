@@ -10,7 +10,8 @@ use Rattle.j39_id.specs.declared.line_error.LineError.TheVariants.{Empty, NoHash
 use Rattle.j39_follow.proofs.OneText.{one_interface, one_part}
 use Rattle.j39_follow.specs.LogLines.{IsElsewhere, IsReadPart, NamesInterface, interface_behind}
 use Rattle.j39_tp.specs.declared.packet.Packet.{Packet}
-use Rattle.j39_audit.specs.AuditText.{AuditPast, AuditsLine, AuditsLines, claims_before, nothing_read, passed_by, past_with_frame, with_next_number, past_again, past_with_again, noted_newly}
+use Rattle.j39_audit.specs.AuditText.{AuditPast, AuditsLine, AuditsLines, claims_before, nothing_read, passed_by, past_with_frame, with_next_number, past_again}
+use Rattle.j39_audit.specs.AuditText.{past_with_again, noted_newly}
 use Rattle.j39_audit.specs.Breaks.{breaks, line_time}
 use Rattle.j39_audit.specs.Claiming.{Heard, HeardClaims, broken_off, with_claim, newest_of, is_at}
 use Rattle.j39_audit.specs.Looking.{claims_behind, is_claim}
@@ -168,7 +169,8 @@ same_read s past next rest frames r more claims interface taken reads = record {
   reads = subst (λ (i : Option (List ℕ)). AreReadAs i more r.left) (sym interface) reads;
 }
 
-passed_claims : (s : Settings) (e : LineError) (past : AuditPast) → ((passed_by s e past).claims ≡ past.claims) × ((passed_by s e past).interface ≡ past.interface)
+passed_claims : (s : Settings) (e : LineError) (past : AuditPast) → ((passed_by s e past).claims ≡ past.claims)
+    × ((passed_by s e past).interface ≡ past.interface)
     × (((passed_by s e past).taken ≡ None) ⊎ ((passed_by s e past).taken ≡ past.taken))
 passed_claims s Empty past = (refl, refl, inr refl)
 passed_claims s NoHash past = (refl, refl, inl refl)
@@ -203,7 +205,8 @@ unfolding is_again
 same_as_before plan None time f is = absurd (true≢false (sym is))
 same_as_before plan (Some one) None f is = absurd (true≢false (sym is))
 same_as_before plan (Some one) (Some τ) f is =
-    elim (plan.timing) as (λ o. option_map_or (λ (t : Timing). is_again_behind t one τ f) o false ≡ true → (other : TakenFrame) × (Some one ≡ Some other) × (other.frame ≡ f)) [
+    elim (plan.timing) as (λ o. option_map_or (λ (t : Timing). is_again_behind t one τ f) o false ≡ true → (other : TakenFrame) × (Some one ≡ Some other)
+    × (other.frame ≡ f)) [
       | None ↦ λ e. absurd (true≢false (sym e))
       | Some t ↦ λ e.
           let same = (and_parts (is_same_frame one.frame f) (is_too_soon t f one.time τ) e).0 in
@@ -275,7 +278,13 @@ read_more s past (ShortLine l) next more frames (part, named, part_is, named_is,
           (r.newest other (sym (ap (λ (p : AuditPast). p.taken) e ∙ kept.taken) ∙ is));
       reads = subst (λ (i : Option (List ℕ)). AreReadAs i more left) (sym interface) reads;
     }
-read_more s past (ShortLine l) next more frames (part, named, part_is, named_is, inr (here, inl (f, time, spelled, text, inr (new, (packet, packet_is, e))))) r =
+read_more s past (ShortLine l) next more frames (
+  part,
+  named,
+  part_is,
+  named_is,
+  inr (here, inl (f, time, spelled, text, inr (new, (packet, packet_is, e)))),
+) r =
     let begun : AuditPast = with_next_number past in
     let t : Option ℕ = line_time s.plan time in
     let (left, row, reads) = next_frame past.interface part named more r.left f here spelled

@@ -32,7 +32,8 @@ use Rattle.j39_audit.specs.Looking.{IsPacketOf, is_single, message_sent}
 use Rattle.j39_audit.specs.SentMessages.{SentMessage}
 use Rattle.j39_audit_laws.specs.OwnPart.{IsItsAddress, IsOfFlowPlanned}
 use Rattle.j39_audit_laws.proofs.RunFrames.{IsNewest, IsSoundFrame, claims_behind_those, claims_of, no_claims, none_newest}
-use Rattle.j39_audit_laws.proofs.RunKept.{IsHeardRight, IsKnown, IsKnownOn, all_known_on, claim_reported, claims_so, heard_next, its_own, message_reported, none_claim, own, request_reported}
+use Rattle.j39_audit_laws.proofs.RunKept.{IsHeardRight, IsKnown, IsKnownOn, all_known_on, claim_reported, claims_so, heard_next, its_own, message_reported}
+use Rattle.j39_audit_laws.proofs.RunKept.{none_claim, own, request_reported}
 use Rattle.j39_audit_laws.proofs.RunSteps.{IsOfMessages, IsOneStep, IsSending, IsReporting, claim_frame, claims_at, one_step, request_frame}
 
 -- ---- where a frame stands
@@ -174,7 +175,8 @@ module _ (plan : Plan) (clean : Clean plan) where
   abbrev IsGood : World → Type 0
   IsGood w = IsHeardRight plan clean w × AreSoundFrames w
 
-  good_next : (w : World) → IsKnownOn plan clean w → IsGood w → (step : Step) → refusal plan w step ≡ None → (new : World) → StepsTo plan w step new → IsGood new
+  good_next : (w : World) → IsKnownOn plan clean w → IsGood w → (step : Step) → refusal plan w step ≡ None → (new : World) → StepsTo plan w step new
+      → IsGood new
   good_next w known good step allowed new leads =
       let next = known.1 step allowed new leads in
       let one = one_step plan w known.0.stated.standing step allowed new leads in (

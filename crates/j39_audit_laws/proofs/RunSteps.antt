@@ -18,7 +18,8 @@ use Rattle.j39_network.specs.declared.steps.Step.{Step}
 use Rattle.j39_network.specs.declared.steps.Step.TheVariants.{Up, Down, Give, Ask, Begin, Send, Emit, Take, Lose, LateSender, LateReceiver, Rest}
 use Rattle.j39_id.specs.Addresses.{global_address}
 use Rattle.j39_signal.specs.Selectors.{is_selected}
-use Rattle.j39_tp.proofs.Answering.{IsAside, IsNoAnnouncement, RepliesAside, ReportsMessage, HoldsNothing, aside_answer, answers_announce_nothing, hears_stated, sender_aside, timed_out_aside}
+use Rattle.j39_tp.proofs.Answering.{IsAside, IsNoAnnouncement, RepliesAside, ReportsMessage, HoldsNothing, aside_answer, answers_announce_nothing, hears_stated}
+use Rattle.j39_tp.proofs.Answering.{sender_aside, timed_out_aside}
 use Rattle.j39_tp.specs.Chunks.{chunk}
 use Rattle.j39_tp.specs.Reasons.{timeout}
 use Rattle.j39_tp.specs.Receiver as receiver
@@ -44,7 +45,8 @@ use Rattle.j39_world.specs.Run.{StepsTo, at_ends, begin_refusal, begin_refusals,
 use Rattle.j39_world.specs.Sent.{Sent, frame_of, source_of}
 use Rattle.j39_world.specs.SentTransfers.{address_of, destination_of, packet_frame, short_frame}
 use Rattle.j39_world.specs.SwitchingOff.{switched_off}
-use Rattle.j39_world.specs.TransferSteps.{BeginsAt, LostFrom, SendsAt, TakenFrom, first_frame, hearing, packets_in, reaction_of, receiver_replies, sender_replies}
+use Rattle.j39_world.specs.TransferSteps.{BeginsAt, LostFrom, SendsAt, TakenFrom, first_frame, hearing, packets_in, reaction_of, receiver_replies}
+use Rattle.j39_world.specs.TransferSteps.{sender_replies}
 use Rattle.j39_world.specs.World.{Stations, World, changed}
 use Rattle.j39_run_laws.proofs.Addresses.Notes.{reacts_on}
 use Rattle.j39_run_laws.proofs.Runs.Changed.{changed_elsewhere, changed_here}
@@ -290,7 +292,8 @@ module _ (plan : Plan) (w : World) (standing : AreStanding plan w.stations w.cla
       → (new : World) → BeginsAt (count_of plan) w k o bytes new → IsOneStep plan w new
   begin k bytes None is allowed new never = absurd never
   begin k bytes (Some flow) is allowed new e =
-      let (sendable, (on, (heard, (address, (free, (long, (taken, rest))))))) = none_hold (begin_refusals plan.live (count_of plan) w (Some flow) bytes) allowed in
+      let (sendable, (on, (heard, (address, (free, (long, (taken, rest))))))) = none_hold
+      (begin_refusals plan.live (count_of plan) w (Some flow) bytes) allowed in
       let of = of_flow k flow bytes is (not-false _ on) (not-false _ address) (not-false _ long) (not-false _ taken) in
       let d : ℕ = destination_of w.stations flow.to in
       let s : ℕ = address_of w.stations flow.sender in
@@ -306,7 +309,8 @@ module _ (plan : Plan) (w : World) (standing : AreStanding plan w.stations w.cla
       → (new : World) → SendsAt (count_of plan) w k o bytes new → IsOneStep plan w new
   send k bytes None is allowed new never = absurd never
   send k bytes (Some flow) is allowed new e =
-      let (sendable, (on, (heard, (address, (free, (long, (taken, rest))))))) = none_hold (send_refusals plan.live (count_of plan) w (Some flow) bytes) allowed in
+      let (sendable, (on, (heard, (address, (free, (long, (taken, rest))))))) = none_hold
+      (send_refusals plan.live (count_of plan) w (Some flow) bytes) allowed in
       let lengths = and_parts (has_length flow (length bytes)) (is_short (length bytes)) (not-false _ long) in
       let of = of_flow k flow bytes is (not-false _ on) (not-false _ address) lengths.0 (not-false _ taken) in
       let d : ℕ = destination_of w.stations flow.to in

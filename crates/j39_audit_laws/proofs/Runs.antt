@@ -15,7 +15,8 @@ use Rattle.j39_audit.specs.Settings.{AreMoving, Settings}
 use Rattle.j39_audit.specs.declared.mark.Word.{Word}
 use Rattle.j39_audit.specs.declared.mark.Word.TheVariants.{Short, Stranger, Nobody, Address, Cannot, Layout, NoFlow, Priority}
 use Rattle.j39_audit_laws.specs.AuditedRuns.{ArePartsKept, AreFramesOf, AreReadAs, IsNotWritten, IsNotWrittenOf}
-use Rattle.j39_audit_laws.proofs.RunAudits.{AreSound, no_address_line, no_cannot_line, no_layout_line, no_no_flow_line, no_nobody_line, no_priority_line, no_short_line, no_stranger_line}
+use Rattle.j39_audit_laws.proofs.RunAudits.{AreSound, no_address_line, no_cannot_line, no_layout_line, no_no_flow_line, no_nobody_line, no_priority_line}
+use Rattle.j39_audit_laws.proofs.RunAudits.{no_short_line, no_stranger_line}
 use Rattle.j39_audit_laws.proofs.RunFrames.{IsSoundFrame}
 use Rattle.j39_audit_laws.proofs.RunSound.{all_sound}
 use Rattle.j39_audit_laws.proofs.Sure.{each_keeps}

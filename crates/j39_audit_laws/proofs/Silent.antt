@@ -118,7 +118,8 @@ module _ (pause : ℕ) (windows : ℕ → Window) where
       let one = one_more i j pause up in
       record { first = i; before = omega (arith, up); bound = y; is = bound; gap = omega (arith, less, steps, one) }
 
-  found_silent : (j : ℕ) → ((k : ℕ) → k < j → stated_at k ≡ false) → (lower : Option ℕ) → IsTooFar pause windows j lower → is_silent pause windows j lower ≡ true
+  found_silent : (j : ℕ) → ((k : ℕ) → k < j → stated_at k ≡ false) → (lower : Option ℕ) → IsTooFar pause windows j lower
+      → is_silent pause windows j lower ≡ true
   found_silent zero none lower far = let before = far.before in absurd (omega (arith, before))
   found_silent (suc j) none lower far =
       let i = far.first in

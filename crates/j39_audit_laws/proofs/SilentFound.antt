@@ -25,7 +25,8 @@ use Rattle.j39_audit.specs.Settings.{Settings, by_load as judged_by_load, logger
 use Rattle.j39_audit.specs.declared.pauses.Ending.{Ending}
 use Rattle.j39_audit_laws.specs.FoundLines.{IsFrameAt}
 use Rattle.j39_audit_laws.specs.MarkRecords.{KeepsTime}
-use Rattle.j39_audit_laws.specs.PauseLines.{BeginsAnew, ClaimEndsPause, CountsFor, EndsPauseAt, FrameLine, IsBadAt, IsMessageAt, IsSeenOf, IsUnclearOf, time_there}
+use Rattle.j39_audit_laws.specs.PauseLines.{BeginsAnew, ClaimEndsPause, CountsFor, EndsPauseAt, FrameLine, IsBadAt, IsMessageAt, IsSeenOf, IsUnclearOf}
+use Rattle.j39_audit_laws.specs.PauseLines.{time_there}
 use Rattle.j39_audit_laws.specs.SilentFlows.{AreFramesOnBus, IsEndOfFlow, IsLongSilent}
 use Rattle.j39_audit_laws.proofs.PauseFrames as frames
 use Rattle.j39_audit_laws.proofs.PauseSteps.{AreShown, IsLate, IsOpen, IsStated, Watched, all_keep, all_stated, bound, reported_on}

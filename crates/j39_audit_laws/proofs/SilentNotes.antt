@@ -1,5 +1,6 @@
 -- What is noted of the messages of a flow with a pause, and where it ends, is where the flow is silent.
-use Rattle.std.proofs.Common.{◌≡◌, ℕ, zero, suc, ◌+◌, ◌-◌, ◌<◌, ◌++◌, [], List, Bool, true, false, cond, Option, Some, None, refl, sym, ap, ◌∙◌, append_assoc, arith}
+use Rattle.std.proofs.Common.{◌≡◌, ℕ, zero, suc, ◌+◌, ◌-◌, ◌<◌, ◌++◌, [], List, Bool, true, false, cond, Option, Some, None, refl, sym, ap, ◌∙◌, append_assoc}
+use Rattle.std.proofs.Common.{arith}
 use Rattle.std.specs.Prelude.{nat_lt}
 use Rattle.std.specs.Option.{option_and_then}
 use Rattle.std.proofs.lemmas.Bool.{eq-eqb, lt-ltb}
@@ -115,7 +116,8 @@ notes_the_silent_end s t p n windows lines j m last paused none there behind_it 
     let found = newest_is p.pause n windows lines m none j in
     let by : silence_behind s t n (e.newest n) e.last ≡ lag p.pause (Some moment) lower =
     ap (λ (x : Option Newest). silence_behind s t n x e.last) found
-    ∙ ap (λ (l : ℕ → Option LastFrame). option_and_then (λ (q : FlowPause). silent_by q newest (last_of_flow s l n)) (flow_pause s t n)) (last_is p.pause n windows lines m none (suc j))
+    ∙ ap (λ (l : ℕ → Option LastFrame). option_and_then (λ (q : FlowPause). silent_by q newest (last_of_flow s l n)) (flow_pause s t n))
+    (last_is p.pause n windows lines m none (suc j))
     ∙ ap (λ (o : Option FlowPause). option_and_then (λ (q : FlowPause). silent_by q newest (last_of_flow s m.last n)) o) paused
     ∙ ap (λ (l : Option LastFrame). silent_by p newest l) there ∙ looked p newest last behind_it in
     ap (λ (l : List Noted). e.untimely ++ l)

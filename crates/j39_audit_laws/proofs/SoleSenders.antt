@@ -1,10 +1,12 @@
 -- Who is the sender for sure, where no claim was heard: nobody but a unit that is planned at the address.
-use Rattle.std.proofs.Common.{◌≡◌, ℕ, ◌<◌, ◌==◌, ◌&&◌, ◌||◌, Bool, true, false, not, if◌then◌else◌, [], Option, Some, None, refl, sym, ap, ◌∙◌, inl, inr, eqb-true}
+use Rattle.std.proofs.Common.{◌≡◌, ℕ, ◌<◌, ◌==◌, ◌&&◌, ◌||◌, Bool, true, false, not, if◌then◌else◌, [], Option, Some, None, refl, sym, ap, ◌∙◌, inl, inr}
+use Rattle.std.proofs.Common.{eqb-true}
 use Rattle.std.proofs.lemmas.Bool.{and_from, cases_Bool, eq-eqb, or_left, true≢false}
 use Rattle.std.specs.List.{slice_get}
 use Rattle.std.specs.Option.{option_map_or}
 use Rattle.j39_network.specs.declared.plan.unit_plan.UnitPlan.{UnitPlan}
-use Rattle.j39_audit.specs.Claiming.{HeardClaims, Knowledge, broken_off, first_there, has_strangers, is_address_of, is_another_there, is_free_for, is_strange, knowledge, may_be, may_stand, newest_of, no_claims, sender_at, sure_sender}
+use Rattle.j39_audit.specs.Claiming.{HeardClaims, Knowledge, broken_off, first_there, has_strangers, is_address_of, is_another_there, is_free_for, is_strange}
+use Rattle.j39_audit.specs.Claiming.{knowledge, may_be, may_stand, newest_of, no_claims, sender_at, sure_sender}
 use Rattle.j39_audit.specs.Settings.{Settings, moves, units_planned}
 use Rattle.j39_audit.specs.declared.senders.SureSender.TheVariants.{Unit as OfUnit, Nobody, Unknown}
 use Rattle.j39_audit.proofs.Below.{any_here}
@@ -30,7 +32,8 @@ unheard s claims u none = ap (λ (c : HeardClaims). (knowledge s c).last u) none
 -- ---- who may be there
 
 -- a unit that wasn't heard may be at its planned address
-pub may_be_planned : (s : Settings) (k : Knowledge) (u a : ℕ) (unit : UnitPlan) → slice_get s.plan.units.items u ≡ Some unit → unit.address ≡ a → k.last u ≡ None
+pub may_be_planned : (s : Settings) (k : Knowledge) (u a : ℕ) (unit : UnitPlan) → slice_get s.plan.units.items u ≡ Some unit → unit.address ≡ a
+    → k.last u ≡ None
     → may_be s k u a ≡ true
 unfolding may_be is_address_of
 may_be_planned s k u a unit at planned none =
@@ -39,7 +42,8 @@ may_be_planned s k u a unit at planned none =
     ∙ or_left (unit.address == a) (moves s u && is_free_for s a) (eq-eqb unit.address a planned))
 
 -- who is the sender for sure is a unit that may be there
-pub sole_sender : (s : Settings) (k : Knowledge) (a u sender : ℕ) → sender < units_planned s → may_be s k sender a ≡ true → sender_at s k a ≡ OfUnit u → sender ≡ u
+pub sole_sender : (s : Settings) (k : Knowledge) (a u sender : ℕ) → sender < units_planned s → may_be s k sender a ≡ true → sender_at s k a ≡ OfUnit u
+    → sender ≡ u
 unfolding sender_at is_another_there
 sole_sender s k a u sender inside there is = go (is_strange s k a) (first_there s k a) is
   where

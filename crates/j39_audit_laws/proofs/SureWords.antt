@@ -1,5 +1,6 @@
 -- Where each sender is sure, no frame is noted as unsure.
-use Rattle.std.proofs.Common.{◌≡◌, ℕ, ◌+◌, ◌==◌, ◌++◌, ◌∷◌, [], List, Bool, true, false, if◌then◌else◌, length, Option, Some, None, refl, sym, ap, ◌∙◌, subst, inl, inr}
+use Rattle.std.proofs.Common.{◌≡◌, ℕ, ◌+◌, ◌==◌, ◌++◌, ◌∷◌, [], List, Bool, true, false, if◌then◌else◌, length, Option, Some, None, refl, sym, ap, ◌∙◌, subst}
+use Rattle.std.proofs.Common.{inl, inr}
 use Rattle.std.specs.Prelude.{count_by, nat_lt}
 use Rattle.std.specs.List.{slice_get}
 use Rattle.std.specs.Option.{option_map_or}
@@ -14,12 +15,15 @@ use Rattle.j39_audit.specs.AuditText.{AuditPast, AuditsLines, claims_before, loo
 use Rattle.j39_audit.specs.Breaks.{breaks, line_time}
 use Rattle.j39_audit.specs.Claiming.{HeardClaims, Knowledge, knowledge, sender_at, was_asked_for}
 use Rattle.j39_audit.specs.Counting.{Noted, reported_at, occurrences_of}
-use Rattle.j39_audit.specs.Looking.{break_noted, claim_noted, claim_place, counted, frame_noted, is_above_unplanned, is_claim, is_urgent, mark_noted, message_noted, message_sent, noted_if, noted_with, request_noted, requested, sent_noted, told, answers_request, answer_noted, answer_of, asked_noted, besides_noted}
+use Rattle.j39_audit.specs.Looking.{break_noted, claim_noted, claim_place, counted, frame_noted, is_above_unplanned, is_claim, is_urgent, mark_noted}
+use Rattle.j39_audit.specs.Looking.{message_noted, message_sent, noted_if, noted_with, request_noted, requested, sent_noted, told, answers_request}
+use Rattle.j39_audit.specs.Looking.{answer_noted, answer_of, asked_noted, besides_noted}
 use Rattle.j39_audit.specs.SentMessages.{SentMessage, all_marked, deviation, flows_noted, is_nearest_flow, is_nearest_request, marked, noted_at, requests_noted}
 use Rattle.j39_audit.specs.Settings.{AreMoving, Settings}
 use Rattle.j39_audit.specs.declared.mark.Mark.{Mark}
 use Rattle.j39_audit.specs.declared.mark.Word.{Word}
-use Rattle.j39_audit.specs.declared.mark.Word.TheVariants.{Short, Stranger, Address, Cannot, Urgent, Seen, Unclear, Asked, Counted, Unsure, Break, Answered, Answers, Besides}
+use Rattle.j39_audit.specs.declared.mark.Word.TheVariants.{Short, Stranger, Address, Cannot, Urgent, Seen, Unclear, Asked, Counted, Unsure, Break, Answered}
+use Rattle.j39_audit.specs.declared.mark.Word.TheVariants.{Answers, Besides}
 use Rattle.j39_audit.specs.declared.senders.SureSender.{SureSender}
 use Rattle.j39_audit.specs.declared.senders.SureSender.TheVariants.{Unit as OfUnit, Nobody, Unknown}
 use Rattle.j39_audit_laws.specs.FoundForSure.{ClaimsArePlanned, HasFixedUnits, UnsureIsNone}

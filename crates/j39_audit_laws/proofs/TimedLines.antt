@@ -1,5 +1,6 @@
 -- Lines of a log that have a time and a frame, and no interface: they are read as this frame, and as no other.
-use Rattle.std.proofs.Common.{◌≡◌, ℕ, ◌+◌, ◌-◌, ◌<◌, ◌≤◌, true, false, Bool, List, [], ◌∷◌, ◌++◌, append_assoc, length, slice_index, codes, All, Option, Some, None, refl, sym, ap, ◌∙◌}
+use Rattle.std.proofs.Common.{◌≡◌, ℕ, ◌+◌, ◌-◌, ◌<◌, ◌≤◌, true, false, Bool, List, [], ◌∷◌, ◌++◌, append_assoc, length, slice_index, codes, All, Option, Some}
+use Rattle.std.proofs.Common.{None, refl, sym, ap, ◌∙◌}
 use Rattle.std.proofs.Common.{subst, inl, inr, arith, if◌then◌else◌, is_none}
 use Rattle.std.proofs.lemmas.List.{length-append}
 use Rattle.std.proofs.lemmas.List.Elements.{All-cons, All-nil, All-weaker}
@@ -32,7 +33,8 @@ pub record IsWrittenTime (text : List ℕ) (time : ℕ) : Type 0 where
 
 -- ---- a line
 
-module _ (text : List ℕ) (time : ℕ) (is : IsWrittenTime text time) (frame : Frame) (word : List ℕ) (spells : WordSpells word (bits frame.ident) frame.payload.items)
+module _ (text : List ℕ) (time : ℕ) (is : IsWrittenTime text time) (frame : Frame) (word : List ℕ)
+    (spells : WordSpells word (bits frame.ident) frame.payload.items)
     (some : 0 < length word) (whole : All (λ c. is_separator c ≡ false) word) where
   abbrev front : List ℕ
   front = text ++ 32 ∷ []
@@ -132,7 +134,8 @@ not_elsewhere (Some log) part is = is
 
 -- ---- the number that a time is
 
-pub line_time_is : (plan : Plan) (timing : Timing) (text : List ℕ) (time : ℕ) → plan.timing ≡ Some timing → IsWrittenTime text time → line_time plan text ≡ Some time
+pub line_time_is : (plan : Plan) (timing : Timing) (text : List ℕ) (time : ℕ) → plan.timing ≡ Some timing → IsWrittenTime text time
+    → line_time plan text ≡ Some time
 line_time_is plan timing text time timed is =
     ap (λ (o : Option Timing). if is_none o then None else clock_time (moment_of text)) timed ∙ (ap clock_time is.moment ∙ is.few)
 

@@ -12,7 +12,8 @@ use Rattle.j39_id.specs.declared.line_error.LineError.TheVariants.{Empty, NoHash
 use Rattle.j39_follow.proofs.OneText.{one_interface, one_part, one_time}
 use Rattle.j39_follow.specs.LogLines.{IsElsewhere, IsReadPart, IsTimeText, NamesInterface}
 use Rattle.j39_tp.specs.declared.packet.Packet.{Packet}
-use Rattle.j39_audit.specs.AuditText.{AuditPast, AuditsLine, AuditsLines, bad_line, broadcasts_there, claims_before, counted_for, moments_with_frame, nothing_read, passed_by, past_with_frame, with_next_number, past_again, past_with_again, with_again, noted_newly}
+use Rattle.j39_audit.specs.AuditText.{AuditPast, AuditsLine, AuditsLines, bad_line, broadcasts_there, claims_before, counted_for, moments_with_frame}
+use Rattle.j39_audit.specs.AuditText.{nothing_read, passed_by, past_with_frame, with_next_number, past_again, past_with_again, with_again, noted_newly}
 use Rattle.j39_audit.specs.BegunBroadcasts.{packet_with}
 use Rattle.j39_audit.specs.Breaks.{line_time}
 use Rattle.j39_audit.specs.Claiming.{HeardClaims, with_requests}
@@ -385,7 +386,8 @@ module _ (s : Settings) (log : List Line) where
     )
 
   -- what holds behind each line holds at the end
-  module _ (Holds : ℕ → AuditPast → Type 0) (more : (number : ℕ) (past next : AuditPast) → Holds number past → IsNext (number + 1) past next → Holds (number + 1) next)
+  module _ (Holds : ℕ → AuditPast → Type 0) (more : (number : ℕ) (past next : AuditPast) → Holds number past → IsNext (number + 1) past next
+      → Holds (number + 1) next)
     where
       behind_those : (before middle rest : List Line) (past end : AuditPast) → log ≡ before ++ (middle ++ rest) → AuditsLines s nothing_read before past
           → Holds (length before) past → AuditsLines s past middle end → Holds (length (before ++ middle)) end
@@ -403,7 +405,8 @@ module _ (s : Settings) (log : List Line) where
       pub at_end : (end : AuditPast) → Holds 0 nothing_read → AuditsLines s nothing_read log end → Holds (length log) end
       at_end end first read = behind_those [] log [] nothing_read end (sym (append-nil log)) refl first read
 
-      pub at_line : (number : ℕ) (past : AuditPast) (line : Line) (is : IsLineOf s log number past line) → Holds 0 nothing_read → Holds (length is.before) is.just
+      pub at_line : (number : ℕ) (past : AuditPast) (line : Line) (is : IsLineOf s log number past line) → Holds 0 nothing_read
+          → Holds (length is.before) is.just
       at_line number past line is first = behind_those [] is.before (line ∷ is.behind) nothing_read is.just is.row refl first is.read
 
   -- a line of a log has its place in it

@@ -15,7 +15,8 @@ use Rattle.j39_timing.specs.TimedFrames.{IsOnBusAt, Schedule, Waits}
 use Rattle.j39_load.specs.BusTimes.{timing_of}
 use Rattle.j39_load.specs.KeepsPlan.{IsSingleFlow, KeepsToPlan}
 use Rattle.j39_load.specs.LoadFindings.{AsksOfBus}
-use Rattle.j39_load.specs.SentFrames.{Announcing, Asking, Broadcasts, Carrying, First, FrameSources, HasPeriodMs, Held, InSession, IsFrameOf, IsSentEvery, Single, Source}
+use Rattle.j39_load.specs.SentFrames.{Announcing, Asking, Broadcasts, Carrying, First, FrameSources, HasPeriodMs, Held, InSession, IsFrameOf, IsSentEvery}
+use Rattle.j39_load.specs.SentFrames.{Single, Source}
 use Rattle.j39_load.specs.declared.waits.delay.Delay.{Delay}
 use Rattle.j39_audit.specs.AuditText.{Look, line_of_mark, line_reported, log_ended, look_at, mark_at, subject_lines, reported_mark}
 use Rattle.j39_audit.specs.Below.{each_below}
@@ -39,7 +40,8 @@ no_line : (s : Settings) (look : Look) (n : ℕ) → (look (mark_at NearFlow n 0
 unfolding subject_lines line_reported line_of_mark each_below
 no_line s look n by_bus late =
     let stated : reported_mark look NearFlow n 0 ≡ mark_at NearOrLate n 0 =
-    cond-true ((look (mark_at NearFlow n 0)).times == 0) (mark_at NearOrLate n 0) (mark_at NearFlow n 0) (eq-eqb (look (mark_at NearFlow n 0)).times 0 by_bus) in
+    cond-true ((look (mark_at NearFlow n 0)).times == 0) (mark_at NearOrLate n 0) (mark_at NearFlow n 0)
+    (eq-eqb (look (mark_at NearFlow n 0)).times 0 by_bus) in
     ap (λ (m : Mark). line_of_mark s.plan m (look m)) stated
     ∙ cond-true ((look (mark_at NearOrLate n 0)).times == 0) [] _ (eq-eqb (look (mark_at NearOrLate n 0)).times 0 late)
 
@@ -83,7 +85,8 @@ short_planned plan timing bus held b (Asking r) release p is = (let long = is.le
 short_planned plan timing bus held b (Announcing u m) release p is = is.length
 short_planned plan timing bus held b (Carrying u m k) release p is = is.0.length
 
-module _ (s : Settings) (timing : Timing) (timed : timing_of s.plan ≡ Some timing) (by_bus : s.bound ≡ Bus) (none : timing.drift ≡ 0) (delays : List (Option Delay))
+module _ (s : Settings) (timing : Timing) (timed : timing_of s.plan ≡ Some timing) (by_bus : s.bound ≡ Bus) (none : timing.drift ≡ 0)
+    (delays : List (Option Delay))
     (bus : Schedule) (planned : ℕ → Bool) (sent : FrameSources) (held : Held) (legal : IsBusWithErrors bus no_damage)
     (keeps : KeepsToPlan s.plan timing bus planned sent held) (late : IsNoneNearInLogs s timing delays bus planned sent) where
   short : (p : ℕ) → p < bus.count → bus.bits p ≤ 160

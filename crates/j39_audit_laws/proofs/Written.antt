@@ -6,12 +6,16 @@ use Rattle.std.proofs.lemmas.List.{append-nil}
 use Rattle.j39_id.specs.Lines.{Line, lines}
 use Rattle.j39_stream.specs.declared.verdict.Verdict.{Verdict}
 use Rattle.j39_stream.specs.declared.verdict.Verdict.TheVariants.{Done, Findings}
-use Rattle.j39_audit.specs.AuditText.{AuditPast, IsAuditedLog, Look, accusation_count, accusations, accusing_at, accusing_line, counts_of, groups_named, line_of_mark, line_reported, lines_reported, log_ended, look_at, subject_count, subject_lines, subjects, text_by, reported_mark, word_count, word_lines}
+use Rattle.j39_audit.specs.AuditText.{AuditPast, IsAuditedLog, Look, accusation_count, accusations, accusing_at, accusing_line, counts_of, groups_named}
+use Rattle.j39_audit.specs.AuditText.{line_of_mark, line_reported, lines_reported, log_ended, look_at, subject_count, subject_lines, subjects, text_by}
+use Rattle.j39_audit.specs.AuditText.{reported_mark, word_count, word_lines}
 use Rattle.j39_audit.specs.Below.{each_below, sum_below}
 use Rattle.j39_audit.specs.Settings.{Settings}
 use Rattle.j39_audit.specs.declared.mark.Mark.{Mark}
 use Rattle.j39_audit.specs.declared.mark.Word.{Word}
-use Rattle.j39_audit.specs.declared.mark.Word.TheVariants.{Short, Stranger, Nobody as NobodyThere, Address, Cannot, Layout, NoFlow, Priority, Urgent, Seen, Unclear, Asked, Counted, Unsure, Break, NearFlow, NearRequest, SilentFlow, Deaf, NearPackets, SilentPackets, NearOrLate, SilentOrLate, Answered, Answers, Besides}
+use Rattle.j39_audit.specs.declared.mark.Word.TheVariants.{Short, Stranger, Nobody as NobodyThere, Address, Cannot, Layout, NoFlow, Priority, Urgent, Seen}
+use Rattle.j39_audit.specs.declared.mark.Word.TheVariants.{Unclear, Asked, Counted, Unsure, Break, NearFlow, NearRequest, SilentFlow, Deaf, NearPackets}
+use Rattle.j39_audit.specs.declared.mark.Word.TheVariants.{SilentPackets, NearOrLate, SilentOrLate, Answered, Answers, Besides}
 use Rattle.j39_audit.specs.declared.tally.Occurrences.{Occurrences}
 use Rattle.j39_audit_laws.specs.FoundForSure.{FoundAreWritten, IsWrittenIn}
 use Rattle.j39_audit_laws.specs.FoundLines.{IsAccusing, IsFoundAt, IsReportedAt}

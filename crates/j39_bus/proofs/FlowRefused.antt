@@ -35,7 +35,8 @@ refused_alone net bytes h flow = send_refusal net.live (length net.claimers.item
 
 -- by the flow at a place, and where there is none
 module _ (net : Network) (f : ℕ) (flows : List Flow) (are : flows ≡ net.flows.items) (of : Histories → Option Flow → Option StepError) where
-  pub refused_by_flow : (flow : Flow) → f < length flows → flow ≡ get_or flows f flow → (cause : Option StepError) → ((h : Histories) → cause ≡ of h (Some flow))
+  pub refused_by_flow : (flow : Flow) → f < length flows → flow ≡ get_or flows f flow → (cause : Option StepError)
+      → ((h : Histories) → cause ≡ of h (Some flow))
       → (h : Histories) → of h (slice_get net.flows.items f) ≡ cause
   refused_by_flow flow inside at cause is h =
       ap (of h) (got net.flows.items f flow (omega (arith, inside, ap length are)) (at ∙ ap (λ fs. get_or fs f flow) are)) ∙ sym (is h)

@@ -118,7 +118,8 @@ module _ (windows : List ℕ) (rows : List ReceiverRow) (was : ReceiverTable) (i
                 ∙ with_cell_at None (map slots rows) v u new (omega (arith, in_v, length-map rows slots))
                 (omega (arith, in_u, ap length (get_or-map slots rows v row [] in_v ∙ ap slots (sym at_v)))) s t
               where
-                slots_set : (l : List ReceiverRow) → map slots (set rows v (with_item row u new)) ≡ set (map slots rows) v (set (get_or (map slots rows) v []) u new)
+                slots_set : (l : List ReceiverRow) → map slots (set rows v (with_item row u new)) ≡ set (map slots rows) v
+                    (set (get_or (map slots rows) v []) u new)
                 slots_set l = map-set slots rows v (with_item row u new)
                     ∙ ap (λ (r : List ReceiverSlot). set (map slots rows) v (set r u new)) (sym (get_or-map slots rows v row [] in_v ∙ ap slots (sym at_v)))
 

@@ -18,7 +18,8 @@ unsent [] say all (k, inside, is) = absurd (omega arith)
 unsent (item ∷ items) say all (zero, inside, is) = true≢false (sym (and_parts (is_request item) (are_requests items) all).0 ∙ ap is_request is)
 unsent (item ∷ items) say all (suc k, inside, is) = unsent items say (and_parts (is_request item) (are_requests items) all).1 (k, omega arith, is)
 
-all_requests : (items : List Item) → ((a : ℕ) → ¬ Contains items (AddressClaimed (Claim a))) → ¬ Contains items (AddressClaimed Cannot) → are_requests items ≡ true
+all_requests : (items : List Item) → ((a : ℕ) → ¬ Contains items (AddressClaimed (Claim a))) → ¬ Contains items (AddressClaimed Cannot)
+    → are_requests items ≡ true
 all_requests [] claims cannot = refl
 all_requests (item ∷ items) claims cannot =
     and_from (is_request item) (are_requests items) (first item refl)

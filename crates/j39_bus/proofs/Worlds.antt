@@ -69,7 +69,8 @@ stated_nothing units w u = λ i. record w {
     either false xs = refl
 
 -- to send two items is to send one after the other
-pub stated_twice : (units : List PlannedUnit) (w : World) (u : ℕ) (x y : Item) → send_to_others units (send_to_others units w u (x ∷ [])) u (y ∷ []) ≡ send_to_others units w u (x ∷ y ∷ [])
+pub stated_twice : (units : List PlannedUnit) (w : World) (u : ℕ) (x y : Item) → send_to_others units (send_to_others units w u (x ∷ [])) u
+    (y ∷ []) ≡ send_to_others units w u (x ∷ y ∷ [])
 stated_twice units w u x y = λ i. record w {
   claims = λ s t. both (eqb s u && ((w.stations t).on && not (eqb t u))) (w.claims s t) i;
   frames = appended w.frames (frame_of (unit_at units u).name (w.stations u).address x) (frame_of (unit_at units u).name (w.stations u).address y) i;

@@ -70,7 +70,8 @@ impl Network {
         ensures network { IsNetwork self.new }
         ensures plan { KeepsPlan self.old self.new }
         ensures rest { self.new
-            ≡ record self.old { claimers = self.new.claimers; claims = self.new.claims; wire = self.new.wire; frames = self.new.frames } }
+            ≡ record self.old
+            { claimers = self.new.claimers; claims = self.new.claims; wire = self.new.wire; frames = self.new.frames } }
         ensures world { (h : Histories)
             → world_in h self.new ≡ switched_on (planned_units self.old.claimers.items) (world_in h self.old) unit }
     {

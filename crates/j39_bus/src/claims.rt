@@ -96,7 +96,8 @@ fn are_settled_of(claims: &Queues<Item>, from: usize, units: usize) -> bool
 pub(crate) fn are_settled(claims: &Queues<Item>, units: usize) -> bool
     requires units { units ≡ length claims.now.lists }
     ensures { result
-        ≡ list_all (λ u. list_all (λ v. are_requests (pair_in claims.now.lists u v)) (range_with_len 0 units)) (range_with_len 0 units) }
+        ≡ list_all (λ u. list_all (λ v. are_requests (pair_in claims.now.lists u v)) (range_with_len 0 units))
+        (range_with_len 0 units) }
 {
     for from in 0..units {
         if !are_settled_of(claims, from, units) {

@@ -6,7 +6,8 @@ ghost use Rattle.j39_world.specs.Flows.{window_at};
 ghost use Rattle.j39_tp.specs.Receiver.{hears, is_complete, receives, timed_out, gives_up, is_open_at, message_of};
 ghost use Rattle.j39_world.specs.World.{changed_pair};
 ghost use Rattle.j39_bus.specs.BusState.{closed, holding_at};
-ghost use Rattle.j39_bus.specs.inside.Receivers.{HasRoomFor, AnswersWithWindow, IsReady, answering, holding_of, left_at};
+ghost use Rattle.j39_bus.specs.inside.Receivers.{HasRoomFor, AnswersWithWindow, IsReady, answering, holding_of};
+ghost use Rattle.j39_bus.specs.inside.Receivers.{left_at};
 ghost use Rattle.j39_bus.specs.inside.Receivers.{left_of, message_in, without_holdings_of};
 ghost use Rattle.j39_bus.specs.inside.Receivers.{receiver_at};
 
@@ -135,7 +136,8 @@ fn hear_in(
     requires window { 0 < window }
     requires answering { AnswersWithWindow window slot.old }
     ensures heard { IfOk result (λ r. r.0 ≡ (hears (Answering window) (holding_of slot.old).progress packet.now).1) }
-    ensures after { OnOk result (holding_of slot.new ≡ left_of (receives (answering window (holding_of slot.old)) packet.now)) }
+    ensures after { OnOk result (holding_of slot.new ≡ left_of
+        (receives (answering window (holding_of slot.old)) packet.now)) }
     ensures message { IfOk result (λ r. is_complete r.0 ≡ true
         → r.1.items ≡ message_in (receives (answering window (holding_of slot.old)) packet.now)) }
     ensures same { OnErr result (holding_of slot.new ≡ holding_of slot.old) }
@@ -204,7 +206,8 @@ impl Receivers {
         requires from { from < length self.old.windows }
         requires to { to < length self.old.windows }
         ensures windows { self.new.windows ≡ self.old.windows }
-        ensures heard { IfOk result (λ x. let r = receiver_at self.old to from in x.0 ≡ (hears r.manner r.progress packet.now).1) }
+        ensures heard { IfOk result (λ x. let r = receiver_at self.old to from
+            in x.0 ≡ (hears r.manner r.progress packet.now).1) }
         ensures after { OnOk result (holding_at self.new.holdings ≡ changed_pair (holding_at self.old.holdings) to from
             (left_of (receives (receiver_at self.old to from) packet.now))) }
         ensures message { IfOk result (λ x. is_complete x.0 ≡ true

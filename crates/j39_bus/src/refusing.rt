@@ -96,7 +96,8 @@ impl Network {
     // Of two units that have to be on.
     fn refusal_of_pair(&self, from: usize, to: usize) -> Option<StepError>
         ensures { result
-            ≡ first_fault (pair_refusals (length self.now.claimers.items) (station_at self.now.claimers.items) from to) }
+            ≡ first_fault (pair_refusals (length self.now.claimers.items)
+            (station_at self.now.claimers.items) from to) }
     {
         let count = self.claimers.len();
         if from >= count || to >= count {
@@ -160,7 +161,8 @@ impl Network {
         requires network { IsNetwork self.now }
         requires flow { IsFlow (length self.now.claimers.items) flow.now }
         ensures { (h : Histories)
-            → result ≡ begin_refusal self.now.live (length self.now.claimers.items) (world_in h self.now) (Some flow.now) bytes.now }
+            → result ≡ begin_refusal self.now.live (length self.now.claimers.items) (world_in h self.now)
+            (Some flow.now) bytes.now }
     {
         let is_busy = sessions::is_open(self.sessions.as_slice(), flow.sender);
         self.refusal_of_flow(flow, bytes, is_busy, fits(flow, bytes))
@@ -171,7 +173,8 @@ impl Network {
         requires network { IsNetwork self.now }
         requires flow { IsFlow (length self.now.claimers.items) flow.now }
         ensures { (h : Histories)
-            → result ≡ send_refusal self.now.live (length self.now.claimers.items) (world_in h self.now) (Some flow.now) bytes.now }
+            → result ≡ send_refusal self.now.live (length self.now.claimers.items) (world_in h self.now)
+            (Some flow.now) bytes.now }
     {
         let is_busy = sessions::is_of_group(self.sessions.as_slice(), flow.sender, flow.pgn);
         self.refusal_of_flow(flow, bytes, is_busy, fits_one_frame(flow, bytes))
@@ -188,7 +191,8 @@ impl Network {
         requires network { IsNetwork self.now }
         requires flow { IsFlow (length self.now.claimers.items) flow.now }
         ensures { (h : Histories) → result ≡ first_fault
-            (flow_refusals self.now.live (length self.now.claimers.items) (world_in h self.now) flow.now bytes.now is_busy fits) }
+            (flow_refusals self.now.live (length self.now.claimers.items)
+            (world_in h self.now) flow.now bytes.now is_busy fits) }
     {
         if !can_be_sent(flow) {
             return Some(StepError::NoSuchFlow);

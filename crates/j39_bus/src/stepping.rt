@@ -58,7 +58,8 @@ impl Network {
 
 impl Bus {
     /// Does one step. A refused step changes nothing: the error is the first cause that holds, in the order of
-    /// `StepError`. Want of memory comes only where no cause holds, and never for `Down`, `Lose` and `Rest`; it changes nothing either.
+    /// `StepError`. Want of memory comes only where no cause holds, and never for `Down`, `Lose` and `Rest`; it changes
+    /// nothing either.
     pub fn step(&mut self, step: &Step) -> Result<(), StepError>
         ensures ok { OnOk result ((plan : Plan) (w : World) → Stands self.old plan w
             → (refusal plan w step.now ≡ None)

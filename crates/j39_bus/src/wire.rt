@@ -16,7 +16,8 @@ use std::collections::VecDeque;
 pub(crate) fn oldest(wire: &Queues<Wired>, from: usize, to: usize) -> Option<&Wired>
     requires from { from < length wire.now.lists }
     requires to { to < length wire.now.lists }
-    ensures some { IfSome result (λ item. pair_in wire.now.lists from to ≡ item.now ∷ drop 1 (pair_in wire.now.lists from to)) }
+    ensures some { IfSome result (λ item. pair_in wire.now.lists from to ≡ item.now
+        ∷ drop 1 (pair_in wire.now.lists from to)) }
     ensures none { IfNone result (pair_in wire.now.lists from to ≡ []) }
 {
     let queue = wire.between(from, to);

@@ -44,7 +44,11 @@ impl Claimer {
     /// A unit that is not started. It holds no address and has no notes.
     pub fn new(name: Name, preferred: Address) -> Self
         ensures { result
-            ≡ record { planned = record { name = name; preferred = preferred; kept = set.empty; claims = true }; state = off } }
+            ≡ record {
+              planned = record
+                  { name = name; preferred = preferred; kept = set.empty; claims = true };
+              state = off;
+            } }
     {
         Claimer::with_kept(name, preferred, AddressSet::new())
     }
@@ -52,7 +56,11 @@ impl Claimer {
     /// The same, of a unit that never moves to one of the kept addresses.
     pub fn with_kept(name: Name, preferred: Address, kept: AddressSet) -> Self
         ensures { result
-            ≡ record { planned = record { name = name; preferred = preferred; kept = kept; claims = true }; state = off } }
+            ≡ record {
+              planned = record
+                  { name = name; preferred = preferred; kept = kept; claims = true };
+              state = off;
+            } }
     {
         Claimer::planned(name, preferred, kept, true)
     }
@@ -60,7 +68,11 @@ impl Claimer {
     /// The same, of a unit that may not claim.
     pub fn planned(name: Name, preferred: Address, kept: AddressSet, claims: bool) -> Self
         ensures { result
-            ≡ record { planned = record { name = name; preferred = preferred; kept = kept; claims = claims }; state = off } }
+            ≡ record {
+              planned = record
+                  { name = name; preferred = preferred; kept = kept; claims = claims };
+              state = off;
+            } }
     {
         Claimer {
             name,
@@ -144,8 +156,12 @@ impl Claimer {
         requires { can_note self.old.state.notes name ≡ true }
         ensures said { result ≡ said_exactly (pick chooser.now) self.old.planned self.old.state name (say_of address) }
         ensures left { self.new
-            ≡ record self.old { state = left_exactly (pick chooser.now) self.old.planned self.old.state name (say_of address) } }
-        ensures rule { Reacts self.old.planned self.old.state name (AddressClaimed (say_of address)) result self.new.state }
+            ≡ record self.old {
+              state = left_exactly (pick chooser.now) self.old.planned self.old.state name
+                  (say_of address);
+            } }
+        ensures rule { Reacts self.old.planned self.old.state name
+            (AddressClaimed (say_of address)) result self.new.state }
     {
         if !self.claims {
             return None;

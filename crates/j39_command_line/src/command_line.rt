@@ -1,8 +1,11 @@
 //! The words of the command line, read.
-ghost use Rattle.std.specs.Prelude.{ℕ, nat_le, nat_lt, ◌&&◌, ◌<◌, if◌then◌else◌, ◌≡◌, ◌≢◌, Err, None, true, false, [], IfOk, Some, codes, length, map, string_bytes, unwrap_or};
-ghost use Rattle.clap.specs.Words.{all_of, first_of, found_of, kind_of, one_of, rows_of, subcommand_of, subcommand_rows_of};
+ghost use Rattle.std.specs.Prelude.{ℕ, nat_le, nat_lt, ◌&&◌, ◌<◌, if◌then◌else◌, ◌≡◌, ◌≢◌, Err, None, true, false, []};
+ghost use Rattle.std.specs.Prelude.{IfOk, Some, codes, length, map, string_bytes, unwrap_or};
+ghost use Rattle.clap.specs.Words.{all_of, first_of, found_of, kind_of, one_of, rows_of, subcommand_of};
+ghost use Rattle.clap.specs.Words.{subcommand_rows_of};
 ghost use Rattle.j39_command_line.specs.Commands.{commands};
-ghost use Rattle.j39_command_line.specs.Orders.{IsOrdered, AreRefused, AsksHelp, IsHelp, Orders, OrdersNothing, are_all, are_quiet, are_stamps, quiet_in, stamps_in};
+ghost use Rattle.j39_command_line.specs.Orders.{IsOrdered, AreRefused, AsksHelp, IsHelp, Orders, OrdersNothing};
+ghost use Rattle.j39_command_line.specs.Orders.{are_all, are_quiet, are_stamps, quiet_in, stamps_in};
 ghost use Rattle.j39_command_line.specs.Orders.{asks_for_text};
 ghost use Rattle.std.specs.Char.{is_ascii_digit};
 ghost use Rattle.std.specs.List.{list_all};
@@ -36,7 +39,8 @@ fn value(alloc: Global, values: &ArgMatches, name: &str) -> Result<String, Words
 
 // The values that a command takes by this name, of which there may be none.
 fn given(alloc: Global, values: &ArgMatches, name: &str) -> Result<Vec<String>, WordsFault>
-    ensures given { IfOk result (λ v. map string_bytes v.items ≡ unwrap_or (all_of name.now (rows_of (found_of values.now))) []) }
+    ensures given { IfOk result (λ v. map string_bytes v.items ≡ unwrap_or
+        (all_of name.now (rows_of (found_of values.now))) []) }
     ensures known { result ≡ Err Bad → ⊥ }
 {
     match values.get_raw(name) {
@@ -67,7 +71,8 @@ fn is_given(values: &ArgMatches, flag: &str) -> bool
 // Which frames are reported: all, where it is asked for.
 fn frames(values: &ArgMatches) -> Frames
     ensures given { one_of (codes "all") (rows_of (found_of values.now)) ≡ Some (codes "true") → are_all result ≡ true }
-    ensures not_given { one_of (codes "all") (rows_of (found_of values.now)) ≡ Some (codes "false") → are_all result ≡ false }
+    ensures not_given { one_of (codes "all") (rows_of (found_of values.now)) ≡ Some (codes "false")
+        → are_all result ≡ false }
     ensures unsaid { one_of (codes "all") (rows_of (found_of values.now)) ≡ None → are_all result ≡ false }
 {
     if is_given(values, "all") {
@@ -93,7 +98,8 @@ fn are_digits(text: &[u8]) -> bool
 fn number_of(digits: &str) -> Option<u64>
     requires some { 0 < length digits.now }
     requires digits { list_all is_ascii_digit digits.now ≡ true }
-    ensures { result ≡ (if nat_le (digits_value 10 digits.now) 1000000 then Some (digits_value 10 digits.now) else None) }
+    ensures { result ≡ (if nat_le (digits_value 10 digits.now) 1000000 then Some (digits_value 10 digits.now)
+        else None) }
 {
     let Ok(number) = digits.parse::<u64>() else {
         return None;
@@ -120,7 +126,8 @@ fn quiet_if(number: u64) -> Option<Option<u64>>
 fn quiet_number(digits: &str) -> Option<Option<u64>>
     requires some { 0 < length digits.now }
     requires digits { list_all is_ascii_digit digits.now ≡ true }
-    ensures { result ≡ (if nat_lt 0 (digits_value 10 digits.now) && nat_le (digits_value 10 digits.now) 1000 then Some (Some (digits_value 10 digits.now)) else None) }
+    ensures { result ≡ (if nat_lt 0 (digits_value 10 digits.now) && nat_le (digits_value 10 digits.now) 1000
+        then Some (Some (digits_value 10 digits.now)) else None) }
 {
     match number_of(digits) {
         Some(number) => quiet_if(number),

@@ -2,8 +2,10 @@
 ghost use Rattle.std.specs.Prelude.{◌≡◌, false, IfOk, IsOkAnd, codes};
 ghost use Rattle.clap.specs.Words.{app_of, rule_of, with_subcommand};
 ghost use Rattle.clap.specs.declared.builder.command.Command.TheViews.{out-Command as fields_of};
-ghost use Rattle.j39_command_line.specs.Commands.{commands, flag_rule, one_value, program, two_values, two_values_and_flag};
-ghost use Rattle.j39_command_line.specs.Commands.{audit_command, option_rule, value_and_values, value_rule, any_values_rule};
+ghost use Rattle.j39_command_line.specs.Commands.{commands, flag_rule, one_value, program, two_values};
+ghost use Rattle.j39_command_line.specs.Commands.{two_values_and_flag};
+ghost use Rattle.j39_command_line.specs.Commands.{audit_command, option_rule, value_and_values, value_rule};
+ghost use Rattle.j39_command_line.specs.Commands.{any_values_rule};
 
 use clap::{Arg, ArgAction, Command};
 use std::alloc::{AllocError, Global};
@@ -112,7 +114,8 @@ fn variant<'a>(alloc: Global) -> Result<Command<'a>, AllocError>
 }
 
 fn follow<'a>(alloc: Global) -> Result<Command<'a>, AllocError>
-    ensures app { IfOk result (λ c. app_of c ≡ two_values_and_flag (codes "follow") (codes "PLAN") (codes "LOG") (codes "all")) }
+    ensures app { IfOk result (λ c. app_of c ≡ two_values_and_flag (codes "follow") (codes "PLAN") (codes "LOG")
+        (codes "all")) }
     ensures local { IfOk result (λ c. (fields_of c).has_globals ≡ false) }
 {
     two_values(
@@ -180,7 +183,8 @@ fn with<'a>(
     subcommand: Result<Command<'a>, AllocError>,
 ) -> Result<Command<'a>, AllocError>
     requires { IfOk subcommand (λ c. (fields_of c).has_globals ≡ false) }
-    ensures { IfOk result (λ c. IsOkAnd program.entry (λ p. IsOkAnd subcommand.entry (λ s. app_of c ≡ with_subcommand (app_of p) (app_of s).top))) }
+    ensures { IfOk result (λ c. IsOkAnd program.entry
+        (λ p. IsOkAnd subcommand.entry (λ s. app_of c ≡ with_subcommand (app_of p) (app_of s).top))) }
 {
     program?.subcommand(subcommand?)
 }
@@ -194,7 +198,8 @@ fn with_one<'a>(
     first: &'a str,
     help: &'a str,
 ) -> Result<Command<'a>, AllocError>
-    ensures { IfOk result (λ c. IsOkAnd program.entry (λ p. app_of c ≡ with_subcommand (app_of p) (one_value name.entry.now first.entry.now).top)) }
+    ensures { IfOk result (λ c. IsOkAnd program.entry
+        (λ p. app_of c ≡ with_subcommand (app_of p) (one_value name.entry.now first.entry.now).top)) }
 {
     with(program, one_value(alloc, name, about, first, help))
 }

@@ -41,7 +41,8 @@ pub enum Order {
     Variant(String, Vec<String>),
     /// `check PLAN`: what is wrong with the plan of the file of this name.
     Check(String),
-    /// `addresses PLAN`: which units of the plan of the file of this name hold their planned addresses whatever happens.
+    /// `addresses PLAN`: which units of the plan of the file of this name hold their planned addresses whatever
+    /// happens.
     Addresses(String),
     /// `load PLAN`: how long frames wait, and how full the bus is, by the plan of the file of this name.
     Load(String),
@@ -49,11 +50,12 @@ pub enum Order {
     Run(String, String),
     /// `read PLAN LOG`: what the log says of the plan's groups, the files of these names.
     Read(String, String),
-    /// `follow PLAN LOG`: who sent what in the log, by its own claims, the files of these names; with `--all` of all frames.
+    /// `follow PLAN LOG`: who sent what in the log, by its own claims, the files of these names; with `--all` of all
+    /// frames.
     Follow(String, String, Frames),
     /// `audit PLAN LOG`: which premises of the plan the log refutes, the files of these names; with `--part`, which is
-    /// true then, of a log in which frames may be missing; with `--stamps US` by a logger of this error in microseconds;
-    /// and with `--quiet MS`, which may be absent, so many milliseconds without a frame are a gap.
+    /// true then, of a log in which frames may be missing; with `--stamps US` by a logger of this error in
+    /// microseconds; and with `--quiet MS`, which may be absent, so many milliseconds without a frame are a gap.
     Audit(String, String, bool, u64, Option<u64>),
     /// `vehicle VEHICLE`: what is wrong with the vehicle of several buses of the file of this name.
     Vehicle(String),

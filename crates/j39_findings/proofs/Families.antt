@@ -76,7 +76,8 @@ unfolding group_findings
 groups_covered plan =
     Covers-append in_order (Holds plan) 4 4 5 5 _ _ (omega arith) (omega arith) (omega arith)
     (each_family in_order (Holds plan) 4 HasBadPgn Decides-has_bad_pgn BadPgn plan.groups.items (λ i h. h) (λ i. record { number = refl; places = refl }))
-    (pairs_family in_order (Holds plan) 5 (HaveSamePgn plan.groups.items plan.flows.items) (Decides-have_same_pgn plan.groups.items plan.flows.items) SamePgn plan.groups.items
+    (pairs_family in_order (Holds plan) 5 (HaveSamePgn plan.groups.items plan.flows.items)
+    (Decides-have_same_pgn plan.groups.items plan.flows.items) SamePgn plan.groups.items
     (λ i j h. h) (λ i j. record { number = refl; places = refl }))
 
 -- ---- signals and texts
@@ -97,7 +98,8 @@ pub signals_covered : (plan : Plan) → Covers plan 6 8 (signal_findings plan.gr
 unfolding signal_findings
 signals_covered plan =
     Covers-append in_order (Holds plan) 6 6 7 8 _ _ (omega arith) (omega arith) (omega arith)
-    (each_inside in_order (Holds plan) 6 plan.groups.items (λ group. group.signals.items) (λ group. has_other_width) (λ group s. ¬ WidthFits s) (λ group. Decides-has_other_width) SignalWidth
+    (each_inside in_order (Holds plan) 6 plan.groups.items (λ group. group.signals.items) (λ group. has_other_width) (λ group s. ¬ WidthFits s)
+    (λ group. Decides-has_other_width) SignalWidth
     (λ g s h. h) (λ g s. record { number = refl; places = refl }))
     (Covers-append in_order (Holds plan) 7 7 8 8 _ _ (omega arith) (omega arith) (omega arith)
     (each_inside in_order (Holds plan) 7 plan.groups.items (λ group. group.signals.items) (λ group. ends_outside group.length group.most) EndsOutside
@@ -242,7 +244,8 @@ silent_covered plan =
     let kept = plan.keep_free in
     let units = plan.units.items in
     Covers-append in_order (Holds plan) 26 26 27 27 _ _ (omega arith) (omega arith) (omega arith)
-    (pairs_family in_order (Holds plan) 26 HaveSilentAddress Decides-have_silent_address SilentAddress units (λ i j h. h) (λ i j. record { number = refl; places = refl }))
+    (pairs_family in_order (Holds plan) 26 HaveSilentAddress Decides-have_silent_address SilentAddress units (λ i j h. h)
+    (λ i j. record { number = refl; places = refl }))
     (each_family in_order (Holds plan) 27 (IsSilentInPool kept plan.strangers) (Decides-is_silent_in_pool kept plan.strangers) SilentInPool units (λ i h. h)
     (λ i. record { number = refl; places = refl }))
 

@@ -63,7 +63,8 @@ in_units plan f h = Contains-append_left (unit_findings plan.keep_free plan.stra
 in_groups : (plan : Plan) (f : Finding) → Contains (group_findings plan.groups.items plan.flows.items) f → Contains (found plan) f
 unfolding found
 in_groups plan f h =
-    Contains-append_right (unit_findings plan.keep_free plan.strangers plan.units.items) _ f (Contains-append_left (group_findings plan.groups.items plan.flows.items) _ f h)
+    Contains-append_right (unit_findings plan.keep_free plan.strangers plan.units.items) _ f
+    (Contains-append_left (group_findings plan.groups.items plan.flows.items) _ f h)
 
 in_signals : (plan : Plan) (f : Finding) → Contains (signal_findings plan.groups.items) f → Contains (found plan) f
 unfolding found
@@ -176,10 +177,13 @@ contested_found plan live f h =
     (Contains-append_right (request_findings plan.groups.items plan.flows.items plan.requests.items) _ f
     (Contains-append_right (silent_findings plan.keep_free plan.strangers plan.units.items) _ f (on_live_bus h)))))))))
   where
-    on_live_bus : Contains (each (is_contested (is_unit_alone plan.keep_free plan.strangers plan.units.items) plan.units.items) FlowContested 0 plan.flows.items) f
+    on_live_bus : Contains
+        (each (is_contested (is_unit_alone plan.keep_free plan.strangers plan.units.items) plan.units.items) FlowContested 0 plan.flows.items) f
         → Contains (contested_findings plan.live plan.keep_free plan.strangers plan.units.items plan.flows.items) f
     on_live_bus h = subst
-        (λ b. Contains (if b then each (is_contested (is_unit_alone plan.keep_free plan.strangers plan.units.items) plan.units.items) FlowContested 0 plan.flows.items else []) f)
+        (λ b. Contains
+        (if b then each (is_contested (is_unit_alone plan.keep_free plan.strangers plan.units.items) plan.units.items) FlowContested 0 plan.flows.items
+        else []) f)
         (sym live) h
 
 of_group : (plan : Plan) (find : ℕ → GroupPlan → List Finding) (g : ℕ) (group : GroupPlan) (f : Finding)
@@ -276,7 +280,8 @@ found_of plan (TooFewAddresses n) ((m, are, with_strangers), more) =
     unit_found plan _ (inr (inr (subst P (sym is) (found_if_of _ (TooFewAddresses needed) passes))))
 found_of plan (BadPgn g) h = group_found plan _ (inl (each_of HasBadPgn Decides-has_bad_pgn BadPgn plan.groups.items g h))
 found_of plan (SamePgn g k) h =
-    group_found plan _ (inr (pairs_of (HaveSamePgn plan.groups.items plan.flows.items) (Decides-have_same_pgn plan.groups.items plan.flows.items) SamePgn plan.groups.items g k h))
+    group_found plan _ (inr (pairs_of (HaveSamePgn plan.groups.items plan.flows.items)
+    (Decides-have_same_pgn plan.groups.items plan.flows.items) SamePgn plan.groups.items g k h))
 found_of plan (SignalWidth g s) h =
     signal_found plan _ (inl (of_group plan width_findings g h.value (SignalWidth g s) h.value_is
     (each_of (λ signal. ¬ WidthFits signal) Decides-has_other_width (SignalWidth g) h.value.signals.items s h.meets)))

@@ -102,7 +102,8 @@ contested_some plan some =
     (some_right (silent_findings plan.keep_free plan.strangers plan.units.items) _ some))))))))
 
 -- the parts one after another, each added behind those before it, are the whole list
-pub whole_list : {A : Type 0} (plan : Plan) (r : Result A AllocError) (old units groups signals flows kept unsent records texts needs requests silent new : List Finding)
+pub whole_list : {A : Type 0} (plan : Plan) (r : Result A AllocError)
+    (old units groups signals flows kept unsent records texts needs requests silent new : List Finding)
     → units ≡ old ++ unit_findings plan.keep_free plan.strangers plan.units.items
     → groups ≡ units ++ group_findings plan.groups.items plan.flows.items
     → signals ≡ groups ++ signal_findings plan.groups.items

@@ -44,7 +44,8 @@ near_shares shift near bit s t less reach of_record of_other = (max (s.start + 8
 
 onto_from : (every count : ℕ) (s t : SignalParts) → comes_onto every count s t ≡ true → ComesOnto every count s t
 onto_from every count s t test =
-    let (stands, shares) = (Decides-and _ _ (Decides-ltb (first_near every s t) count) (Decides-shares_bit (further (every * first_near every s t) s) t)).0 test in
+    let (stands, shares) = (Decides-and _ _ (Decides-ltb (first_near every s t) count)
+    (Decides-shares_bit (further (every * first_near every s t) s) t)).0 test in
     record { behind = first_near every s t; later = omega arith; stands = stands; bit = shares.0; of_record = shares.1; of_other = shares.2 }
 
 onto_of : (every count : ℕ) (s t : SignalParts) → 1 ≤ every → ComesOnto every count s t → comes_onto every count s t ≡ true

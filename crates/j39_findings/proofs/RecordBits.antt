@@ -49,8 +49,11 @@ none_of_both g apart i j k bit v w less =
       below = less;
       first_is = v.value_is;
       second_is = w.value_is;
-      related =
-          (bit - 8 * n, (omega (arith, v.meets.0.0), omega (arith, v.meets.0.0, v.meets.0.1)), (omega (arith, w.meets.0.0), omega (arith, w.meets.0.0, w.meets.0.1)));
+      related = (
+        bit - 8 * n,
+        (omega (arith, v.meets.0.0), omega (arith, v.meets.0.0, v.meets.0.1)),
+        (omega (arith, w.meets.0.0), omega (arith, w.meets.0.0, w.meets.0.1)),
+      );
     })
 
 one_record : (g : GroupPlan) → IsApart g → (i j k bit : ℕ) → HasBit g i k bit → HasBit g j k bit → i ≡ j

@@ -175,7 +175,8 @@ alone_by_arrays plan firsts mover shared are_firsts is_mover are_shared =
     let stated = alone_stated plan (λ a. get_or shared a false) are_shared.each (is_some mover) (move_stated mover refl)
     (nat_lt 0 plan.strangers) (some_come plan.strangers) in
     λ u unit at. subst (λ b. MatchBool (not (get_or shared unit.address false)
-    && (not (in_pool unit.address) || (not (nat_lt 0 plan.strangers) && (contains plan.keep_free unit.address || b)))) (IsAloneInPlan plan u) (¬ IsAloneInPlan plan u))
+    && (not (in_pool unit.address) || (not (nat_lt 0 plan.strangers) && (contains plan.keep_free unit.address || b)))) (IsAloneInPlan plan u)
+    (¬ IsAloneInPlan plan u))
     (none_is mover) (stated u unit at)
   where
     none_is : (o : Option ℕ) → not (is_some o) ≡ is_none o
@@ -224,7 +225,8 @@ alone_by_list plan =
     (λ isnt some. true≢false (sym (decided.1 (moving some)) ∙ isnt)))
     (nat_lt 0 plan.strangers) (some_come plan.strangers)
   where
-    smaller_decides : (unit : UnitPlan) → Decides (list_any (λ (other : UnitPlan). other.address == unit.address && nat_lt other.name unit.name) plan.units.items)
+    smaller_decides : (unit : UnitPlan) → Decides (list_any (λ (other : UnitPlan). other.address == unit.address
+        && nat_lt other.name unit.name) plan.units.items)
         (SomeMeets (IsSmaller unit) plan.units.items)
     smaller_decides unit = some_decides (IsSmaller unit)
         (λ other. Decides-and _ _ (Decides-eqb other.address unit.address) (Decides-ltb other.name unit.name)) plan.units.items

@@ -181,7 +181,8 @@ module _ (plan : Plan) (firsts : List (Option ℕ)) (mover : Option ℕ) (are_fi
         | inl first ↦ first_stated v p at_v first
         | inr second ↦
             let moves : is_mover_by firsts p ≡ true =
-            and_from (is_arbitrary p.name) (not (is_first_by firsts p)) (sym (ap (λ (c : PlannedUnit). is_arbitrary c.name) is_v) ∙ arbitrary) (ap not second) in
+            and_from (is_arbitrary p.name) (not (is_first_by firsts p)) (sym (ap (λ (c : PlannedUnit). is_arbitrary c.name) is_v) ∙ arbitrary)
+            (ap not second) in
             let (n, least, below) = is_mover.below v p (slice_get_within plan.units.items v p at_v) at_v moves in
             let at_most = least-true mover unit.name n is least in
             let name_u = ap (λ (c : PlannedUnit). c.name) is_u in

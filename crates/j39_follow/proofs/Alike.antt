@@ -62,7 +62,8 @@ pub whole_part : (line part : List ℕ) → IsUndirected (Short line) → IsRead
 whole_part line part undirected (inl ends) = absurd (undirected part ends)
 whole_part line part undirected (inr whole) = whole.1
 
-read_alike : (plan : Plan) (all_frames : Bool) (past : FollowedPast) (read : Past) (line part : List ℕ) (named : Option (List ℕ)) (next : FollowedPast) (other : Past)
+read_alike : (plan : Plan) (all_frames : Bool) (past : FollowedPast) (read : Past) (line part : List ℕ) (named : Option (List ℕ)) (next : FollowedPast)
+    (other : Past)
     (t u : List ℕ) → part ≡ line → SawAlike past read → FollowsPart plan all_frames past line part named next t → ReadsLine plan read (Short line) other u
     → SawAlike next other
 read_alike plan all_frames past read line part named next other t u whole a (inl f) (inl g) =

@@ -1,5 +1,6 @@
 -- What a frame is, and what is written at it.
-use Rattle.std.proofs.Common.{◌≡◌, ◌++◌, ◌==◌, ◌&&◌, ℕ, Bool, true, false, if◌then◌else◌, List, [], length, Option, Some, None, inl, inr, refl, sym, ap, subst, ◌∙◌}
+use Rattle.std.proofs.Common.{◌≡◌, ◌++◌, ◌==◌, ◌&&◌, ℕ, Bool, true, false, if◌then◌else◌, List, [], length, Option, Some, None, inl, inr, refl, sym, ap, subst}
+use Rattle.std.proofs.Common.{◌∙◌}
 use Rattle.std.proofs.Common.{append_assoc, arith, eq-eqb, eqb-true}
 use Rattle.std.proofs.lemmas.Bool.{cases_Bool, eqb-false, ne_eqb, false≢true}
 use Rattle.std.proofs.lemmas.List.{length-append}
@@ -101,7 +102,8 @@ itself_written plan all_frames log front f sort old first second new notice repo
 
 -- what is written of the message in a frame
 pub framed_report : (plan : Plan) (parties : Parties) (log : List Timed) (front : List ℕ) (f : Frame) (m : Message) (sort : Sort) (old new : List ℕ)
-    → m ≡ in_frame f → ((l : List Timed) → ShowsParties plan parties l m.ident → (piece : List ℕ) × IsMessageReport plan l front m sort piece × (new ≡ old ++ piece))
+    → m ≡ in_frame f → ((l : List Timed) → ShowsParties plan parties l m.ident → (piece : List ℕ) × IsMessageReport plan l front m sort piece
+    × (new ≡ old ++ piece))
     → ShowsParties plan parties log f.ident → (piece : List ℕ) × IsMessageReport plan log front (in_frame f) sort piece × (new ≡ old ++ piece)
 framed_report plan parties log front f m sort old new same stated shows =
     subst (λ (x : Message). ShowsParties plan parties log x.ident → (piece : List ℕ) × IsMessageReport plan log front x sort piece × (new ≡ old ++ piece))

@@ -179,9 +179,11 @@ lines_alike plan all_frames shared (line ∷ log) past read end other t u seen u
     let rest = lines_grow plan all_frames follows.0 log end follows.2 follows.4 in
     let here : follows.0.elsewhere ≡ past.elsewhere = omega (arith, first, rest, stays) in
     let behind : end.elsewhere ≡ follows.0.elsewhere = omega (arith, first, rest, stays) in
-    let now = line_alike plan all_frames shared past read line follows.0 reads.0 follows.1 reads.1 seen (All-head IsUndirected line log undirected) follows.3 here
+    let now = line_alike plan all_frames shared past read line follows.0 reads.0 follows.1 reads.1 seen
+    (All-head IsUndirected line log undirected) follows.3 here
     reads.3 in
-    let later = lines_alike plan all_frames shared log follows.0 reads.0 end other follows.2 reads.2 now.seen (All-tail IsUndirected line log undirected) follows.4
+    let later = lines_alike plan all_frames shared log follows.0 reads.0 end other follows.2 reads.2 now.seen
+    (All-tail IsUndirected line log undirected) follows.4
     behind reads.4 in
     let stated = later.0 in
     let more = now.grown.0 ++ later.1.0 in

@@ -58,7 +58,8 @@ with_frame past time named f packet sort sorts events = record past {
   events = past.events ++ events;
 }
 
-one_frame_read : (plan : Plan) (all_frames : Bool) (past : FollowedPast) (time : List ℕ) (named : Option (List ℕ)) (f : Frame) (next other : FollowedPast) (t u : List ℕ)
+one_frame_read : (plan : Plan) (all_frames : Bool) (past : FollowedPast) (time : List ℕ) (named : Option (List ℕ)) (f : Frame) (next other : FollowedPast)
+    (t u : List ℕ)
     → FollowsFrame plan all_frames past time named f next t → FollowsFrame plan all_frames past time named f other u → (next ≡ other) × (t ≡ u)
 one_frame_read plan all_frames past time named f next other t u a b =
     let log : List Timed = lines_with past f time in
@@ -88,7 +89,8 @@ one_frame_read plan all_frames past time named f next other t u a b =
           ∙ sym b.text_is,
     )
 
-one_part_read : (plan : Plan) (all_frames : Bool) (past : FollowedPast) (line part : List ℕ) (named : Option (List ℕ)) (next other : FollowedPast) (t u : List ℕ)
+one_part_read : (plan : Plan) (all_frames : Bool) (past : FollowedPast) (line part : List ℕ) (named : Option (List ℕ)) (next other : FollowedPast)
+    (t u : List ℕ)
     → FollowsPart plan all_frames past line part named next t → FollowsPart plan all_frames past line part named other u → (next ≡ other) × (t ≡ u)
 one_part_read plan all_frames past line part named next other t u (inl a) (inl b) =
     let frame = one_spelled part a.0 b.0 a.2 b.2 in
@@ -102,7 +104,8 @@ one_part_read plan all_frames past line part named next other t u (inr a) (inr b
     let same = one_fault part a.0 b.0 a.1 b.1 in
     (a.2 ∙ ap (λ (e : LineError). line_passed_over e past) same ∙ sym b.2, a.3 ∙ sym b.3)
 
-one_rest_read : (plan : Plan) (all_frames : Bool) (past : FollowedPast) (line part : List ℕ) (named : Option (List ℕ)) (next other : FollowedPast) (t u : List ℕ)
+one_rest_read : (plan : Plan) (all_frames : Bool) (past : FollowedPast) (line part : List ℕ) (named : Option (List ℕ)) (next other : FollowedPast)
+    (t u : List ℕ)
     → ((IsElsewhere past.interface part named × (next ≡ record past { elsewhere = past.elsewhere + 1 }) × (t ≡ []))
     ⊎ ((¬ IsElsewhere past.interface part named) × FollowsPart plan all_frames past line part named next t))
     → ((IsElsewhere past.interface part named × (other ≡ record past { elsewhere = past.elsewhere + 1 }) × (u ≡ []))

@@ -45,7 +45,8 @@ fn write_received(
         → ShowsParties groups.now parties.now log frame.now.ident
         → HaveHeardSince groups.now pairs.old seen
         → (piece : List ℕ)
-        × IsPacketReport groups.now seen log (front_of stamp.entry) frame.now (Some (AnEnd size pgn)) (option_to_list ended) piece
+        × IsPacketReport groups.now seen log (front_of stamp.entry) frame.now (Some (AnEnd size pgn))
+        (option_to_list ended) piece
         × (text.new ≡ text.old ++ piece)) }
 {
     let ident = frame.ident;
@@ -92,7 +93,8 @@ fn write_packet(
         → ShowsParties groups.now parties.now log frame.now.ident
         → HaveHeardSince groups.now pairs.old seen → AreAllInRange seen
         → (piece : List ℕ)
-        × IsPacketReport groups.now seen log (front_of stamp.entry) frame.now (Some packet.now) (option_to_list ended) piece
+        × IsPacketReport groups.now seen log (front_of stamp.entry) frame.now (Some packet.now)
+        (option_to_list ended) piece
         × (text.new ≡ text.old ++ piece)) }
 {
     if let Some(receipt) = receipt_in(packet) {
@@ -153,7 +155,8 @@ fn write_frame(
         → ShowsParties groups.now parties.now log frame.now.ident
         → ShowsAsker groups.now parties.now log frame.now → HaveHeardSince groups.now pairs.old seen
         → AreAllInRange seen
-        → IsFrameWritten groups.now all_frames pairs.new seen log (front_of stamp.entry) frame.now sorts.0 sorts.1 text.old text.new) }
+        → IsFrameWritten groups.now all_frames pairs.new seen log
+        (front_of stamp.entry) frame.now sorts.0 sorts.1 text.old text.new) }
 {
     let sort = write_itself(all_frames, text, groups, parties, stamp, frame)?;
     if sort.is_grouped() {

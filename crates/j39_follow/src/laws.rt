@@ -34,9 +34,9 @@ pub fn follow_and_read_see_alike()
 {}
 
 /// Of a plan without private groups, and a log in which no line ends in a direction and none is of another interface,
-/// the messages that `follow` reports of groups are reported by `read` too, line after line, but for those whose packets came
-/// out of order and of which the receiver says that it has them whole; and all that `read` reports are, where no address
-/// changes hands.
+/// the messages that `follow` reports of groups are reported by `read` too, line after line, but for those whose
+/// packets came out of order and of which the receiver says that it has them whole; and all that `read` reports are,
+/// where no address changes hands.
 pub fn groups_are_reported_alike()
     ensures { GroupsAreReportedAlike }
 {}
@@ -54,8 +54,8 @@ pub fn contests_are_short()
     ensures { ContestsAreShort }
 {}
 
-/// Where an address of 128 to 247 is claimed that another unit held, this one is taken to be behind it for 250 ms by the
-/// log's time, unless it took the address by a claim less than 250 ms ago itself; before and behind that time it is
+/// Where an address of 128 to 247 is claimed that another unit held, this one is taken to be behind it for 250 ms by
+/// the log's time, unless it took the address by a claim less than 250 ms ago itself; before and behind that time it is
 /// whoever stands there.
 pub fn contests_last_a_wait()
     ensures { ContestsLastAWait }

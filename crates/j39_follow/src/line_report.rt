@@ -81,7 +81,8 @@ impl UnitReport {
         requires { AreWithin counts.old (2 ^ 62) }
         ensures frame { OnOk result ((past : FollowedPast) → RecallsPast groups.now self.old counts.old past
             → stamp.entry.number ≡ past.number
-            → LeadsToPast (FollowsFrame groups.now self.old.all_frames past stamp.entry.time.now (option_copied named.entry)
+            → LeadsToPast (FollowsFrame groups.now self.old.all_frames past stamp.entry.time.now
+            (option_copied named.entry)
             frame.now)
             groups.now self.new counts.new past.number text.old text.new) }
         ensures counted { OnOk result (IsLineMore counts.old counts.new) }

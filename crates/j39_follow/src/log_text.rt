@@ -28,7 +28,8 @@ pub fn follow_text<S: Source, W: Sink>(
     source: &mut S,
     sink: &mut W,
 ) -> CommandResult
-    ensures { AnswersInPieces (IsFollowText plan.now all_frames) log_limits (S.state source.old) (S.state source.new) W.state sink.old sink.new result }
+    ensures { AnswersInPieces (IsFollowText plan.now all_frames) log_limits (S.state source.old)
+        (S.state source.new) W.state sink.old sink.new result }
 {
     let mut report = UnitReport::new(alloc, plan, all_frames)?;
     report_log(alloc, plan, &mut report, source, sink)

@@ -1,6 +1,7 @@
 //! A message of a log, and what it counts as.
 ghost use Rattle.std.specs.Prelude.{◌≡◌};
-ghost use Rattle.j39_follow.specs.FollowReports.{ended_ident as ident_of_ended, ended_message as message_ended, in_frame as message_in_frame};
+ghost use Rattle.j39_follow.specs.FollowReports.{ended_ident as ident_of_ended, ended_message as message_ended};
+ghost use Rattle.j39_follow.specs.FollowReports.{in_frame as message_in_frame};
 ghost use Rattle.j39_follow.specs.FollowReports.{reports_receipt as is_receipt};
 ghost use Rattle.j39_follow.specs.Received.{turned as turned_ident};
 ghost use Rattle.j39_follow.specs.inside.Reporting.{arrived_message};

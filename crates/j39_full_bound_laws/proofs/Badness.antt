@@ -1,5 +1,6 @@
 -- Which times are no worse than others.
-use Rattle.std.proofs.Common.{◌≡◌, ◌⊎◌, ℕ, ◌<◌, ◌≤◌, Bool, true, false, ◌&&◌, ◌||◌, ◌==◌, nat_lt, if◌then◌else◌, is_some, Option, Some, None, refl, sym, ◌∙◌, ap, subst, inl, inr, arith}
+use Rattle.std.proofs.Common.{◌≡◌, ◌⊎◌, ℕ, ◌<◌, ◌≤◌, Bool, true, false, ◌&&◌, ◌||◌, ◌==◌, nat_lt, if◌then◌else◌, is_some, Option, Some, None, refl, sym, ◌∙◌}
+use Rattle.std.proofs.Common.{ap, subst, inl, inr, arith}
 use Rattle.std.proofs.lemmas.Bool.{cases_lt, eq-eqb, eqb-true, le-ltb, lt-ltb, true≢false}
 use Rattle.j39_load.specs.LoadFindings.{time_of_each}
 use Rattle.j39_load.specs.declared.waits.delay.Delay.{Delay}
@@ -124,10 +125,12 @@ as_flow_bad d (Some (Beyond b)) (a, inr is, less) = subst (IsFlowAsBad 2 b) (sym
 as_flow_bad d (Some (Long n)) is = subst (IsFlowAsBad 1 n) (sym is) (inr (refl, omega arith))
 as_flow_bad d (Some (Whole w)) (v, is, no_later) =
     subst (IsFlowAsBad (badness_known (time_reported w)).degree (badness_known (time_reported w)).time) (sym is)
-    (as_bad (badness_known (time_reported w)).degree (badness_known (time_reported w)).time (badness_known (time_reported v)).degree (badness_known (time_reported v)).time
+    (as_bad (badness_known (time_reported w)).degree (badness_known (time_reported w)).time (badness_known (time_reported v)).degree
+    (badness_known (time_reported v)).time
     (known_no_worse (time_reported v) (time_reported w) (reported_known v w no_later)))
 
 pub flow_no_worse : (d e : Option Delay) → IsNoLater d e → is_less_bad (flow_badness (flow.Reported e)) (flow_badness (flow.Reported d)) ≡ false
 flow_no_worse d e is =
-    not_less_bad (flow_badness (flow.Reported e)).degree (flow_badness (flow.Reported e)).time (flow_badness (flow.Reported d)).degree (flow_badness (flow.Reported d)).time
+    not_less_bad (flow_badness (flow.Reported e)).degree (flow_badness (flow.Reported e)).time (flow_badness (flow.Reported d)).degree
+    (flow_badness (flow.Reported d)).time
     (as_flow_bad d e is)

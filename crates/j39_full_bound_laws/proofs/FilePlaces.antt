@@ -1,5 +1,6 @@
 -- The place in the plan of a variant of what stands at a place of the file.
-use Rattle.std.proofs.Common.{◌≡◌, ℕ, zero, suc, ◌+◌, ◌<◌, ◌==◌, Bool, true, false, not, cond, get_or, List, [], ◌∷◌, length, filter, Option, Some, None, is_some, refl, sym, ◌∙◌, ap, subst, arith}
+use Rattle.std.proofs.Common.{◌≡◌, ℕ, zero, suc, ◌+◌, ◌<◌, ◌==◌, Bool, true, false, not, cond, get_or, List, [], ◌∷◌, length, filter, Option, Some, None}
+use Rattle.std.proofs.Common.{is_some, refl, sym, ◌∙◌, ap, subst, arith}
 use Rattle.std.specs.List.{cons_option, filter_map, position_or_len, slice_get}
 use Rattle.std.proofs.lemmas.Bool.{eq-eqb, eqb-true, lt-ltb}
 use Rattle.std.proofs.lemmas.List.Quantifiers.{position-Some}
@@ -46,7 +47,8 @@ made_at f (false ∷ bs) (x ∷ xs) (y ∷ zs) same i z at = made_at f bs xs zs 
 made_at {Y = Y} {Z = Z} f (true ∷ bs) (x ∷ xs) (y ∷ zs) same i z at = by (f x) (λ n found. made_at f bs xs zs (omega (arith, same)) n z found) i at
   where
     by : (o : Option Y) → ((n : ℕ) → slice_get (picked (kept f bs xs) zs) n ≡ Some z → (w : Y) × (slice_get (filter_map f (picked bs xs)) n ≡ Some w))
-        → (n : ℕ) → slice_get (picked (is_some o ∷ kept f bs xs) (y ∷ zs)) n ≡ Some z → (w : Y) × (slice_get (cons_option o (filter_map f (picked bs xs))) n ≡ Some w)
+        → (n : ℕ) → slice_get (picked (is_some o ∷ kept f bs xs) (y ∷ zs)) n ≡ Some z → (w : Y)
+        × (slice_get (cons_option o (filter_map f (picked bs xs))) n ≡ Some w)
     by None rest n found = rest n found
     by (Some w) rest zero found = (w, refl)
     by (Some w) rest (suc n) found = rest n found

@@ -106,7 +106,8 @@ module _ (line : ProductLine) (v w : List ℕ) (covered : IsCoveredBy line v w) 
       → is_less_bad (flow_badness (flow_time also.there.flows.items also.delays f)) (flow_badness (flow_time are.there.flows.items are.delays f)) ≡ false
   reported_here f i is_i =
       let place = ap (λ l. slice_get l i) (sym here_places) ∙ found_at are.there.flows.items i f is_i in
-      let (y, made) = made_at (moved_flow (unit_places line v) (group_places line v)) (flags v line.lists.flows.items) line.plan.flows.items (range_with_len 0 n)
+      let (y, made) = made_at (moved_flow (unit_places line v) (group_places line v)) (flags v line.lists.flows.items) line.plan.flows.items
+      (range_with_len 0 n)
       (sym (length-range 0 n)) i f place in
       let below = slice_get_within part.flows.items i y (ap (λ l. slice_get l i) are.is_plan.has_flows ∙ made) in
       let count = asks_here.waits.count in
@@ -139,5 +140,6 @@ module _ (line : ProductLine) (v w : List ℕ) (covered : IsCoveredBy line v w) 
       go None is_o =
           ap (λ o. is_less_bad (flow_badness (flow_time also.there.flows.items also.delays f))
           (flow_badness (option_map_or (λ k. flow.Reported (slice_index_or are.delays k None)) o flow.NoVariant))) is_o
-          ∙ nothing_less (flow_badness (flow_time also.there.flows.items also.delays f)).degree (flow_badness (flow_time also.there.flows.items also.delays f)).time
+          ∙ nothing_less (flow_badness (flow_time also.there.flows.items also.delays f)).degree
+          (flow_badness (flow_time also.there.flows.items also.delays f)).time
       go (Some i) is_o = reported_here f i is_o

@@ -1,5 +1,6 @@
 -- What is reported of a need is no worse in a variant than in one that is full for it and covers it.
-use Rattle.std.proofs.Common.{◌≡◌, ℕ, ◌<◌, ◌≤◌, Bool, true, false, not, ◌&&◌, ◌==◌, if◌then◌else◌, List, length, Option, Some, None, refl, sym, ◌∙◌, ap, inl, inr}
+use Rattle.std.proofs.Common.{◌≡◌, ℕ, ◌<◌, ◌≤◌, Bool, true, false, not, ◌&&◌, ◌==◌, if◌then◌else◌, List, length, Option, Some, None, refl, sym, ◌∙◌, ap, inl}
+use Rattle.std.proofs.Common.{inr}
 use Rattle.std.specs.List.{slice_get}
 use Rattle.std.specs.Option.{option_and_then, option_map_or}
 use Rattle.std.proofs.lemmas.Bool.{and_from, and_parts, cases_Bool, eqb-true, false≢true, true≢false}
@@ -18,7 +19,8 @@ use Rattle.j39_part_laws.specs.PartLoads.{HasGoodNumbers}
 use Rattle.j39_part_laws.proofs.LoadFindings.{unplanned_there}
 use Rattle.j39_line_part_laws.specs.Covering.{IsCoveredBy, IsCoveredFor}
 use Rattle.j39_line_findings.proofs.Tests.{any_at}
-use Rattle.j39_line_bounds.specs.LineTimes.{age_here, AreVariantTimes, badness_known, is_less_bad, need_badness, need_time, of_degree, place_in_variant, time_of_need, youngest_here}
+use Rattle.j39_line_bounds.specs.LineTimes.{age_here, AreVariantTimes, badness_known, is_less_bad, need_badness, need_time, of_degree, place_in_variant}
+use Rattle.j39_line_bounds.specs.LineTimes.{time_of_need, youngest_here}
 use Rattle.j39_line_bounds.specs.declared.times.LineTimes.{LineTimes}
 use Rattle.j39_line_bounds.specs.declared.times.NeedTime.{NeedTime}
 use Rattle.j39_line_bounds.specs.declared.times.NeedTime.TheVariants as need
@@ -76,7 +78,8 @@ module _ (line : ProductLine) (v : List ℕ) (times : LineTimes) (are : AreVaria
 -- ---- in both
 
 module _ (line : ProductLine) (v w : List ℕ) (is_v : IsVariant line.choices.items v) (is_w : IsVariant line.choices.items w) (d : ℕ)
-    (covered : IsCoveredFor line (Some d) v w) (asked_there : is_need_asked_for line w d ≡ true) (x : NeedPlan) (at_d : slice_get line.plan.needs.items d ≡ Some x)
+    (covered : IsCoveredFor line (Some d) v w) (asked_there : is_need_asked_for line w d ≡ true) (x : NeedPlan)
+    (at_d : slice_get line.plan.needs.items d ≡ Some x)
     (times reported : LineTimes) (are : AreVariantTimes line v times) (also : AreVariantTimes line w reported) (good : HasGoodNumbers also.plan)
     (asked : is_need_asked_for line v d ≡ true) where
   abbrev by : IsCoveredBy line v w
@@ -116,7 +119,8 @@ module _ (line : ProductLine) (v w : List ℕ) (is_v : IsVariant line.choices.it
         let known = bus line v w by times reported are also good in
         let part_of = is_part line v w by times reported are also good in
         let (m, is_m, less) = younger (p line v w by times reported are also good) are.plan also.plan part_of good _ (unplanned_of also.plan known.timing)
-        (few_unplanned also.plan known.timing) (unplanned_there (p line v w by times reported are also good) are.plan also.plan part_of known.timing) are.stays also.stays
+        (few_unplanned also.plan known.timing)
+        (unplanned_there (p line v w by times reported are also good) are.plan also.plan part_of known.timing) are.stays also.stays
         are.delays also.delays (asks_here line v w by times reported are also good) (asks_there line v w by times reported are also good) e f
         (come line v w is_v is_w d covered asked_there are.there also.there are.is_there also.is_there are.plan also.plan are.is_plan also.is_plan x at_d e f made made_there)
         n (ap (λ t. least_age t also.plan.requests.items also.plan.flows.items also.delays f) (sym known.there_is) ∙ is_n) in

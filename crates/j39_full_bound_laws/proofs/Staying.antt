@@ -22,7 +22,8 @@ use Rattle.j39_full_bound_laws.specs.StayingOfFull.{FullVariantsReportOfUnits, F
 use Rattle.j39_full_variant_laws.proofs.FoundOfFull.{full_cover}
 use Rattle.j39_full_variant_laws.proofs.WithoutNevers.{plan_back, plan_to, possible_to}
 
-module _ (line : ProductLine) (u : ℕ) (unit : UnitPlan) (at_u : slice_get line.plan.units.items u ≡ Some unit) (v w : List ℕ) (covered : IsCoveredBy line v w) where
+module _ (line : ProductLine) (u : ℕ) (unit : UnitPlan) (at_u : slice_get line.plan.units.items u ≡ Some unit) (v w : List ℕ)
+    (covered : IsCoveredBy line v w) where
   stays_too : (whole : Plan) → IsVariantPlan line w whole → StaysIn line w u → StaysIn line v u
   stays_too whole is_whole stays part place is_part has =
       let there = units_there line v w covered u place has in

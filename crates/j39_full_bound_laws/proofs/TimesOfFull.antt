@@ -16,7 +16,8 @@ use Rattle.j39_full_bound_laws.proofs.Badness.{no_worse_through, nothing_less}
 use Rattle.j39_full_bound_laws.proofs.FlowTimes.{flow_as_bad, load_no_more}
 use Rattle.j39_full_bound_laws.proofs.NeedTimes.{need_as_bad, not_asked}
 
-times_to : (line : ProductLine) (nevers : LineNevers) (v : List ℕ) (times : LineTimes) → AreVariantTimes line v times → AreVariantTimes (line_with nevers line) v times
+times_to : (line : ProductLine) (nevers : LineNevers) (v : List ℕ) (times : LineTimes) → AreVariantTimes line v times
+    → AreVariantTimes (line_with nevers line) v times
 times_to line nevers v times are = record {
   there = are.there;
   is_there = there_to line nevers v are.there are.is_there;

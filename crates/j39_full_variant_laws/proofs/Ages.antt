@@ -1,5 +1,6 @@
 -- What a need is for is no younger in a whole in which the same flows meet it and none is later.
-use Rattle.std.proofs.Common.{◌≡◌, ℕ, zero, suc, ◌+◌, ◌*◌, ◌≤◌, min, Bool, true, false, not, if◌then◌else◌, List, [], ◌∷◌, slice_index_or, Contains, Option, Some, None, refl, sym, ◌∙◌, ap, subst, inl, inr, arith}
+use Rattle.std.proofs.Common.{◌≡◌, ℕ, zero, suc, ◌+◌, ◌*◌, ◌≤◌, min, Bool, true, false, not, if◌then◌else◌, List, [], ◌∷◌, slice_index_or, Contains, Option}
+use Rattle.std.proofs.Common.{Some, None, refl, sym, ◌∙◌, ap, subst, inl, inr, arith}
 use Rattle.std.specs.List.{slice_get}
 use Rattle.std.specs.Option.{option_map_or}
 use Rattle.std.proofs.lemmas.Bool.{and_from, and_parts, cases_Bool, cases_lt, false≢true, le-leb, leb-true}
@@ -92,7 +93,8 @@ age_of timing flow (Some (Within bits)) age reported = go flow.on_request flow.p
 age_is : (timing : Timing) (flow : FlowPlan) (delay : Option Delay) (age : ℕ) → IsAgeOf timing flow delay age → Contains (ages_of timing flow delay) age
 age_is timing flow delay age its =
     subst (λ d. Contains (ages_of timing flow d) age) (sym its.within)
-    (subst (λ b. Contains (if b then [] else option_map_or (λ pause. (us_of_unit_ms timing pause + us_of_bits timing its.bits) ∷ []) flow.pause []) age) (sym its.by_itself)
+    (subst (λ b. Contains (if b then [] else option_map_or (λ pause. (us_of_unit_ms timing pause + us_of_bits timing its.bits) ∷ []) flow.pause []) age)
+    (sym its.by_itself)
     (subst (λ o. Contains (option_map_or (λ pause. (us_of_unit_ms timing pause + us_of_bits timing its.bits) ∷ []) o []) age) (sym its.paused)
     (0, omega arith, its.sum)))
 
@@ -108,7 +110,8 @@ abbrev pub ComeFromPart : Places → Plan → Plan → NeedPlan → NeedPlan →
 ComeFromPart at part whole need need_there = (j : ℕ) (y : FlowPlan) → slice_get whole.flows.items j ≡ Some y → meets whole.requests.items need_there y ≡ true
     → (i : ℕ) × (x : FlowPlan) × (slice_get part.flows.items i ≡ Some x) × (meets part.requests.items need x ≡ true) × (at.flow i ≡ j)
 
-module _ (at : Places) (part whole : Plan) (is : IsPartAt at part whole) (good : HasGoodNumbers whole) (timing : Timing) (unplanned : ℕ) (range : unplanned ≤ 1000)
+module _ (at : Places) (part whole : Plan) (is : IsPartAt at part whole) (good : HasGoodNumbers whole) (timing : Timing) (unplanned : ℕ)
+    (range : unplanned ≤ 1000)
     (busier : timing.unplanned ≤ unplanned) (reported stays : UnitPlan → Bool) (ds es : List (Option Delay)) (here : AsksOfBus part timing reported ds)
     (there : AsksOfBus whole (counting timing unplanned range) stays es) (need need_there : NeedPlan) where
   abbrev busy : Timing
@@ -158,7 +161,8 @@ module _ (at : Places) (part whole : Plan) (is : IsPartAt at part whole) (good :
     younger n is_n =
         let its = reported_at (ages_for busy whole.requests.items es need_there) 0 whole.flows.items n
         (least_reported (lines_of_each (ages_for busy whole.requests.items es need_there) 0 whole.flows.items) n is_n) in
-        let reported_j = subst (λ k. Contains (ages_for busy whole.requests.items es need_there k its.value) n) (let e : 0 + its.k ≡ its.k = omega arith in e) its.reported in
+        let reported_j = subst (λ k. Contains (ages_for busy whole.requests.items es need_there k its.value) n)
+        (let e : 0 + its.k ≡ its.k = omega arith in e) its.reported in
         let (age, among, less) = age_here its.k its.value its.value_is n reported_j in
         let (m, is_m, fewer) = least_some (lines_of_each (ages_for timing part.requests.items ds need) 0 part.flows.items) age among in
         (m, is_m, omega (arith, less, fewer))
@@ -176,7 +180,8 @@ module _ (at : Places) (part whole : Plan) (is : IsPartAt at part whole) (good :
             ap (is_in_limit limit) is_m ∙ le-leb m limit (omega (arith, less, at_most))
 
     -- and what is too old in the part is in the whole, where it is met there
-    pub too_old_there : (within : ℕ) → (not (is_unmet part.requests.items part.flows.items need) ≡ true → not (is_unmet whole.requests.items whole.flows.items need_there) ≡ true)
+    pub too_old_there : (within : ℕ) → (not (is_unmet part.requests.items part.flows.items need) ≡ true
+        → not (is_unmet whole.requests.items whole.flows.items need_there) ≡ true)
         → is_too_old timing part.requests.items part.flows.items ds need within ≡ true
         → is_too_old busy whole.requests.items whole.flows.items es need_there within ≡ true
     too_old_there within met old =

@@ -44,5 +44,6 @@ reported_of_all line reported each = record {
   loads = λ good v possible here of_here finding one present.
       let (w, full, covered) = full_cover line v possible in
       let (there, of_there, all) = each w full in
-      reported_too reported there (OfLoad finding) all present ((are_found line v w covered here there of_here of_there).loads (good w full there of_there) finding one);
+      reported_too reported there (OfLoad finding) all present ((are_found line v w covered here there of_here of_there).loads
+      (good w full there of_there) finding one);
 }

@@ -15,7 +15,8 @@ use Rattle.j39_line_part_laws.proofs.FullCovers.{among, is_of_choice, size}
 
 module _ (line : ProductLine) where
   -- the box of what is there has each alternative that the variant takes
-  pub part_lets : (v : List ℕ) → IsVariant line.choices.items v → (part : LinePart) → is_part_there line v part ≡ true → Passes (λ a. part_lets_in line a part) v
+  pub part_lets : (v : List ℕ) → IsVariant line.choices.items v → (part : LinePart) → is_part_there line v part ≡ true
+      → Passes (λ a. part_lets_in line a part) v
   part_lets v is part there = (part_shown line v is part).passes_so there
 
   -- what is there in one variant is in another one, each of whose alternatives its box has
@@ -26,7 +27,8 @@ module _ (line : ProductLine) where
   -- ---- boxes in all of which one variant is meet
 
   pub meet_by : (v : List ℕ) → IsVariant line.choices.items v → (p q r : LinePart)
-      → Passes (λ a. part_lets_in line a p) v → Passes (λ a. part_lets_in line a q) v → Passes (λ a. part_lets_in line a r) v → do_meet line (alternatives_of line) p q r ≡ true
+      → Passes (λ a. part_lets_in line a p) v → Passes (λ a. part_lets_in line a q) v → Passes (λ a. part_lets_in line a r) v
+      → do_meet line (alternatives_of line) p q r ≡ true
   meet_by v is p q r in_p in_q in_r =
       at_all (λ a. is_choice_in_all line (alternatives_of line) p q r a.choice) (alternatives_of line) (λ i a at_a.
       let (below, inside) = is_of_choice line i a at_a in

@@ -42,7 +42,8 @@ module _ (line : ProductLine) (v : List ℕ) where
       one_place_each need_flags 0 (length line.plan.needs.items) i j d (ap (λ l. slice_get l i) (sym same) ∙ at_i) (ap (λ l. slice_get l j) (sym same) ∙ at_j)
 
   module _ (there : WhatIsThere) (is_there : IsWhatIsThere line v there) (plan : Plan) (is : IsVariantPlan line v plan) where
-    file_place : (k d : ℕ) → slice_get (picked need_flags (range_with_len 0 (length line.plan.needs.items))) k ≡ Some (0 + d) → place_in_file there.needs.items k ≡ d
+    file_place : (k d : ℕ) → slice_get (picked need_flags (range_with_len 0 (length line.plan.needs.items))) k ≡ Some (0 + d)
+        → place_in_file there.needs.items k ≡ d
     file_place k d at_k =
         ap (λ l. place_in_file l k) (is_there.has_needs ∙ needs_flagged) ∙ ap (λ o. unwrap_or o 0) at_k ∙ (let e : 0 + d ≡ d = omega arith in e)
 
@@ -77,7 +78,8 @@ module _ (line : ProductLine) (v : List ℕ) where
       pub place : place_in_file there.needs.items k ≡ d
       pub stands : slice_get there.needs.items k ≡ Some d
 
-    pub need_in_plan : (d : ℕ) (need : NeedPlan) → slice_get line.plan.needs.items d ≡ Some need → is_need_asked_for line v d ≡ true → is_source_there line v d ≡ true
+    pub need_in_plan : (d : ℕ) (need : NeedPlan) → slice_get line.plan.needs.items d ≡ Some need → is_need_asked_for line v d ≡ true
+        → is_source_there line v d ≡ true
         → IsNeedInPlan d need
     need_in_plan d need at_d asked source =
         let both = sym (need_test line v d need at_d) ∙ and_from _ _ asked source in

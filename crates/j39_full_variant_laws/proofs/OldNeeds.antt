@@ -22,7 +22,8 @@ use Rattle.j39_line_part_laws.specs.Covering.{IsCoveredBy}
 use Rattle.j39_line_part_laws.proofs.FoundOfCovering.{in_load, of_load_reported, of_plan_reported}
 use Rattle.j39_line_part_laws.proofs.FullCovers.{has_full_cover_for}
 use Rattle.j39_line_part_laws.proofs.Possible.{possible_too}
-use Rattle.j39_full_variant_laws.specs.OldNeeds.{AsksForAge, EachHasFullForNeed, HasNoBadNumber, IsPossibleFullFor, OldNeedsAreFoundOfFull, OldNeedsReportedOfFullAreReportedOfAll}
+use Rattle.j39_full_variant_laws.specs.OldNeeds.{AsksForAge, EachHasFullForNeed, HasNoBadNumber, IsPossibleFullFor, OldNeedsAreFoundOfFull}
+use Rattle.j39_full_variant_laws.specs.OldNeeds.{OldNeedsReportedOfFullAreReportedOfAll}
 use Rattle.j39_full_variant_laws.proofs.InBoxes.{part_by, part_lets}
 use Rattle.j39_full_variant_laws.proofs.NeedsInPlan.{need_in_plan, need_of_file}
 use Rattle.j39_full_variant_laws.proofs.PlacedTests.{need_of}
@@ -50,7 +51,8 @@ has_full_for_need line v possible d asked =
 
 module _ (line : ProductLine) (v : List ℕ) (here : List LineFinding) (of_here : AreVariantFindings line v here) where
   -- where something old is reported at a place of the file, it is reported at its place in the plan
-  pub old_in_plan : (d : ℕ) → IsFound here (OfLoad (NeedTooOld d)) → (k : ℕ) × Contains of_here.others (NeedTooOld k) × (place_in_file of_here.there.needs.items k ≡ d)
+  pub old_in_plan : (d : ℕ) → IsFound here (OfLoad (NeedTooOld d)) → (k : ℕ) × Contains of_here.others (NeedTooOld k)
+      × (place_in_file of_here.there.needs.items k ≡ d)
   old_in_plan d one = let (x, among, is) = in_load line v here of_here (NeedTooOld d) one in go x among is
     where
       go : (x : LoadFinding) → Contains of_here.others x → load_finding_in_file of_here.there x ≡ NeedTooOld d

@@ -38,7 +38,8 @@ comes_from f (false ∷ bs) (x ∷ xs) a j y at = later f false false bs (kept f
 comes_from {X = X} {Y = Y} f (true ∷ bs) (x ∷ xs) a j y at = by (f x) refl j (λ i found. comes_from f bs xs (a + 1) i y found) at
   where
     by : (o : Option Y) → f x ≡ o → (i : ℕ)
-        → ((n : ℕ) → slice_get (filter_map f (picked bs xs)) n ≡ Some y → ComesFrom f bs xs (kept f bs xs) (a + 1) n y) → slice_get (cons_option o (filter_map f (picked bs xs))) i ≡ Some y
+        → ((n : ℕ) → slice_get (filter_map f (picked bs xs)) n ≡ Some y → ComesFrom f bs xs (kept f bs xs) (a + 1) n y)
+        → slice_get (cons_option o (filter_map f (picked bs xs))) i ≡ Some y
         → ComesFrom f (true ∷ bs) (x ∷ xs) (is_some o ∷ kept f bs xs) a i y
     by None is_o i rest found = later f true false bs (kept f bs xs) x xs a i i y refl (rest i found)
     by (Some z) is_o zero rest found = record {
@@ -92,7 +93,8 @@ from_first (false ∷ ks) a (suc n) i k at = let rest = from_first ks (a + 1) n 
 from_first (true ∷ ks) a (suc n) zero k at = let same = same_Some a k at in omega (arith, same)
 from_first (true ∷ ks) a (suc n) (suc i) k at = let rest = from_first ks (a + 1) n i k at in omega (arith, rest)
 
-pub one_place_each : (ks : List Bool) (a n i j k : ℕ) → slice_get (picked ks (range_with_len a n)) i ≡ Some k → slice_get (picked ks (range_with_len a n)) j ≡ Some k → i ≡ j
+pub one_place_each : (ks : List Bool) (a n i j k : ℕ) → slice_get (picked ks (range_with_len a n)) i ≡ Some k
+    → slice_get (picked ks (range_with_len a n)) j ≡ Some k → i ≡ j
 one_place_each [] a n i j k at also = absurd (no_value i k at)
 one_place_each (b ∷ ks) a zero i j k at also = absurd (no_value i k at)
 one_place_each (false ∷ ks) a (suc n) i j k at also = one_place_each ks (a + 1) n i j k at also

@@ -8,7 +8,8 @@ use Rattle.j39_network.specs.declared.plan.request_plan.RequestPlan.{RequestPlan
 use Rattle.j39_network.specs.declared.plan.to.To.{To}
 use Rattle.j39_network.specs.declared.plan.to.To.TheVariants.{All, One}
 use Rattle.j39_variants.specs.declared.line.ProductLine.{ProductLine}
-use Rattle.j39_variants.specs.VariantPlans.{flags, group_places, moved_flow, moved_from, moved_need, moved_receivers, moved_request, need_between, place_at, unit_places}
+use Rattle.j39_variants.specs.VariantPlans.{flags, group_places, moved_flow, moved_from, moved_need, moved_receivers, moved_request, need_between, place_at}
+use Rattle.j39_variants.specs.VariantPlans.{unit_places}
 use Rattle.j39_line_findings.specs.FullVariants.{does_bring}
 use Rattle.j39_line_part_laws.proofs.Parts.{flow_of, request_of}
 use Rattle.j39_line_part_laws.proofs.NamedPlaces.{same_places}
@@ -39,7 +40,8 @@ five true true true false e = refl
 five true true true true e = refl
 
 -- a flow meets a need where it brings what is needed, and is asked for where it has to be
-pub meets_by : (requests : List RequestPlan) (need : NeedPlan) (flow : FlowPlan) → meets requests need flow ≡ (does_bring need flow && is_asked_for requests flow)
+pub meets_by : (requests : List RequestPlan) (need : NeedPlan) (flow : FlowPlan)
+    → meets requests need flow ≡ (does_bring need flow && is_asked_for requests flow)
 meets_by requests need flow = five (flow.group == need.group) (not (flow.sender == need.unit)) (is_from need.from flow.sender) (is_reached flow.to need.unit)
     (is_asked_for requests flow)
 

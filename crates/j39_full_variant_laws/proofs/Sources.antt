@@ -1,6 +1,7 @@
 -- The same flows of the file meet a need in a variant and in one that covers it for the need.
 use Rattle.std.specs.declared.alloc.Global.{Global}
-use Rattle.std.proofs.Common.{◌≡◌, ℕ, zero, suc, ◌+◌, ◌<◌, Bool, true, false, not, ◌&&◌, ◌||◌, List, [], ◌∷◌, length, Option, Some, None, is_some, Vec, refl, sym, ◌∙◌, ap, inl, inr, arith}
+use Rattle.std.proofs.Common.{◌≡◌, ℕ, zero, suc, ◌+◌, ◌<◌, Bool, true, false, not, ◌&&◌, ◌||◌, List, [], ◌∷◌, length, Option, Some, None, is_some, Vec, refl}
+use Rattle.std.proofs.Common.{sym, ◌∙◌, ap, inl, inr, arith}
 use Rattle.std.specs.List.{range_with_len, slice_get}
 use Rattle.std.specs.Option.{option_map_or}
 use Rattle.std.proofs.lemmas.Bool.{and_from, and_parts, cases_Bool, false≢true, or_left, or_right}
@@ -14,7 +15,8 @@ use Rattle.j39_network.specs.declared.plan.to.To.{To}
 use Rattle.j39_network.specs.declared.plan.to.To.TheVariants.{All, One}
 use Rattle.j39_variants.specs.declared.line.Alternative.{Alternative}
 use Rattle.j39_variants.specs.declared.line.ProductLine.{ProductLine}
-use Rattle.j39_variants.specs.VariantPlans.{flag_at, flags, group_places, IsVariantPlan, moved_flow, moved_need, moved_receivers, moved_request, picked, place_at, unit_places}
+use Rattle.j39_variants.specs.VariantPlans.{flag_at, flags, group_places, IsVariantPlan, moved_flow, moved_need, moved_receivers, moved_request, picked}
+use Rattle.j39_variants.specs.VariantPlans.{place_at, unit_places}
 use Rattle.j39_variants.specs.Variants.{IsVariant}
 use Rattle.j39_line_findings.specs.Boxes.{flow_lets_in, request_lets_in}
 use Rattle.j39_line_findings.specs.FullVariants.{agree_on_need, alternative_at, alternatives_of, does_bring, is_covered}
@@ -72,12 +74,14 @@ module _ (line : ProductLine) (v w : List ℕ) (covered : IsCoveredBy line v w) 
       let (third, fourth) = and_parts (is_unit_there line v s) (is_receiver_there line v to) rest in
       and_from also _ (here first) (and_from _ _ (group_too g second) (and_from _ _ (unit_too s third) (receiver_too to fourth)))
 
-  some_too : {X : Type 0} (p q : X → Bool) → ((x : X) → p x ≡ true → q x ≡ true) → (o : Option X) → option_map_or p o false ≡ true → option_map_or q o false ≡ true
+  some_too : {X : Type 0} (p q : X → Bool) → ((x : X) → p x ≡ true → q x ≡ true) → (o : Option X) → option_map_or p o false ≡ true
+      → option_map_or q o false ≡ true
   some_too p q each None none = none
   some_too p q each (Some x) is = each x is
 
   pub flow_too : (f : ℕ) → is_flow_there line v f ≡ true → is_flow_there line w f ≡ true
-  flow_too f = some_too _ _ (λ (flow : FlowPlan). named_too _ _ (there_by v w line.lists.flows.items (flows_fewer line v w covered) f) flow.group flow.sender flow.to)
+  flow_too f = some_too _ _ (λ (flow : FlowPlan). named_too _ _ (there_by v w line.lists.flows.items
+      (flows_fewer line v w covered) f) flow.group flow.sender flow.to)
       (slice_get line.plan.flows.items f)
 
   pub request_too : (r : ℕ) → is_request_there line v r ≡ true → is_request_there line w r ≡ true
@@ -106,16 +110,19 @@ module _ (line : ProductLine) (v w : List ℕ) (is_v : IsVariant line.choices.it
   agree c p q covers = (and_parts (is_covered line (alternative_at c p) (alternative_at c q))
       (agree_on_need line (alternatives_of line) d (alternative_at c p) (alternative_at c q)) covers).1
 
-  module _ (f : ℕ) (flow : FlowPlan) (at_f : slice_get line.plan.flows.items f ≡ Some flow) (brings : does_bring need flow ≡ true) (there : is_flow_there line w f ≡ true) where
+  module _ (f : ℕ) (flow : FlowPlan) (at_f : slice_get line.plan.flows.items f ≡ Some flow) (brings : does_bring need flow ≡ true)
+      (there : is_flow_there line w f ≡ true) where
     below : f < length line.plan.flows.items
     below = slice_get_within line.plan.flows.items f flow at_f
 
     sent_here : flow.on_request ≡ false → is_flow_there line v f ≡ true
     sent_here by_itself = part_by line w v is_w is_v (Flow f) (λ c p at_p.
         let (q, at_q, covers) = covered c p at_p in
-        let meet = meet_by line w is_w (Need d) (Flow f) (Flow f) (part_lets line w is_w (Need d) asked) (part_lets line w is_w (Flow f) there) (part_lets line w is_w (Flow f) there) in
+        let meet = meet_by line w is_w (Need d) (Flow f) (Flow f) (part_lets line w is_w (Need d) asked) (part_lets line w is_w (Flow f) there)
+        (part_lets line w is_w (Flow f) there) in
         one-answer-back (flow_lets_in line (alternative_at c p) f) (flow_lets_in line (alternative_at c q) f)
-        (sending_agrees line (alternatives_of line) d (alternative_at c p) (alternative_at c q) need at_d f flow at_f brings (agree c p q covers) below by_itself meet)
+        (sending_agrees line (alternatives_of line) d (alternative_at c p) (alternative_at c q) need at_d f flow at_f brings
+        (agree c p q covers) below by_itself meet)
         (part_lets line w is_w (Flow f) there c q at_q)) there
 
     module _ (only : flow.on_request ≡ true) (answer : IsAnswerIn line w flow) where
@@ -125,7 +132,8 @@ module _ (line : ProductLine) (v w : List ℕ) (is_v : IsVariant line.choices.it
       both_let : (c p : ℕ) → slice_get v c ≡ Some p → (flow_lets_in line (alternative_at c p) f && request_lets_in line (alternative_at c p) r) ≡ true
       both_let c p at_p =
           let (q, at_q, covers) = covered c p at_p in
-          let meet = meet_by line w is_w (Need d) (Flow f) (Request r) (part_lets line w is_w (Need d) asked) (part_lets line w is_w (Flow f) there) (part_lets line w is_w (Request r) answer.there) in
+          let meet = meet_by line w is_w (Need d) (Flow f) (Request r) (part_lets line w is_w (Need d) asked) (part_lets line w is_w (Flow f) there)
+          (part_lets line w is_w (Request r) answer.there) in
           one-answer-back (flow_lets_in line (alternative_at c p) f && request_lets_in line (alternative_at c p) r)
           (flow_lets_in line (alternative_at c q) f && request_lets_in line (alternative_at c q) r)
           (answer_agrees line (alternatives_of line) d (alternative_at c p) (alternative_at c q) need at_d f flow at_f brings (agree c p q covers) below only r
@@ -221,7 +229,8 @@ module _ (line : ProductLine) (v : List ℕ) (plan : Plan) (is : IsVariantPlan l
   -- and each of those of the file that meet it stands in the plan
   pub in_plan : (f : ℕ) → MeetsIn line v need f → IsSourceInPlan f
   in_plan f its =
-      let (flagged, some) = and_parts (flag_at (flags v line.lists.flows.items) f) (is_some (move its.flow)) (sym (flow_test line v f its.flow its.flow_is) ∙ its.there) in
+      let (flagged, some) = and_parts (flag_at (flags v line.lists.flows.items) f) (is_some (move its.flow))
+      (sym (flow_test line v f its.flow its.flow_is) ∙ its.there) in
       let (y, moved) = some_from (move its.flow) some in
       let stands = stands_at move (flags v line.lists.flows.items) line.plan.flows.items 0 f its.flow y its.flow_is flagged moved in
       let parts = flow_of its.flow (place_at (group_places line v) its.flow.group) (place_at (unit_places line v) its.flow.sender)
@@ -242,7 +251,8 @@ module _ (line : ProductLine) (v : List ℕ) (plan : Plan) (is : IsVariantPlan l
             let (flagged, some) = and_parts (flag_at (flags v line.lists.requests.items) answer.r) (is_some (ask answer.request))
             (sym (request_test line v answer.r answer.request answer.request_is) ∙ answer.there) in
             let (q, asked) = some_from (ask answer.request) some in
-            let stands = stands_at ask (flags v line.lists.requests.items) line.plan.requests.items 0 answer.r answer.request q answer.request_is flagged asked in
+            let stands = stands_at ask
+            (flags v line.lists.requests.items) line.plan.requests.items 0 answer.r answer.request q answer.request_is flagged asked in
             or_right (not y.on_request) (serves_some plan.requests.items y)
             (at_any (λ request. serves request y) plan.requests.items stands.j q (ap (λ l. slice_get l stands.j) is.has_requests ∙ stands.at)
             (serves_same line v its.flow y answer.request q moved asked ∙ answer.serves_it))

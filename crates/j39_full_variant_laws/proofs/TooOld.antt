@@ -1,5 +1,6 @@
 -- What is too old in a variant is too old in one that covers it for the need.
-use Rattle.std.proofs.Common.{◌≡◌, ℕ, ◌+◌, Bool, true, false, not, if◌then◌else◌, List, [], ◌∷◌, ◌++◌, length, Contains, Option, Some, None, is_some, option_map, refl, sym, ◌∙◌, ap, subst, inl, inr, arith}
+use Rattle.std.proofs.Common.{◌≡◌, ℕ, ◌+◌, Bool, true, false, not, if◌then◌else◌, List, [], ◌∷◌, ◌++◌, length, Contains, Option, Some, None, is_some}
+use Rattle.std.proofs.Common.{option_map, refl, sym, ◌∙◌, ap, subst, inl, inr, arith}
 use Rattle.std.specs.List.{list_any, range_with_len, slice_get}
 use Rattle.std.specs.Option.{option_map_or}
 use Rattle.std.proofs.lemmas.Bool.{false≢true}
@@ -15,7 +16,8 @@ use Rattle.j39_load.specs.Asked.{asked_of, total_load}
 use Rattle.j39_load.specs.BusTimes.{timing_of, with_claims}
 use Rattle.j39_load.specs.LineLists.{lines_of_each}
 use Rattle.j39_load.specs.LiveClaims.{unplanned_of}
-use Rattle.j39_load.specs.LoadFindings.{all_findings, AreLoadFindings, flows_asked_too_often, further_findings, lateness, load_findings, overload, without_period}
+use Rattle.j39_load.specs.LoadFindings.{all_findings, AreLoadFindings, flows_asked_too_often, further_findings, lateness, load_findings, overload}
+use Rattle.j39_load.specs.LoadFindings.{without_period}
 use Rattle.j39_load.proofs.ReportedLines.{of_asked}
 use Rattle.j39_load.specs.declared.findings.load_finding.LoadFinding.{LoadFinding}
 use Rattle.j39_load.specs.declared.findings.load_finding.LoadFinding.TheVariants.{NoPeriod, Overload, LateFlow, NeedTooOld, AskedTooOften}
@@ -58,7 +60,8 @@ module _ (timing : Timing) (plan : Plan) (delays : List (Option Delay)) where
   abbrev reports : ℕ → NeedPlan → List LoadFinding
   reports = oldness timing plan.requests.items plan.flows.items delays
 
-  old_at : (k place : ℕ) (need : NeedPlan) → slice_get plan.needs.items place ≡ Some need → Contains (reports place need) (NeedTooOld k) → IsOld timing plan delays k
+  old_at : (k place : ℕ) (need : NeedPlan) → slice_get plan.needs.items place ≡ Some need → Contains (reports place need) (NeedTooOld k)
+      → IsOld timing plan delays k
   old_at k place need at_place reported = go need.within refl reported
     where
       by : (limit : ℕ) → need.within ≡ Some limit → (b : Bool) → is_too_old timing plan.requests.items plan.flows.items delays need limit ≡ b
@@ -69,7 +72,8 @@ module _ (timing : Timing) (plan : Plan) (delays : List (Option Delay)) where
           record { need = need; at = ap (slice_get plan.needs.items) (sym same) ∙ at_place; limit = limit; within = within; old = old }
 
       go : (o : Option ℕ) → need.within ≡ o
-          → Contains (option_map_or (λ limit. if is_too_old timing plan.requests.items plan.flows.items delays need limit then NeedTooOld place ∷ [] else []) o []) (NeedTooOld k)
+          → Contains (option_map_or (λ limit. if is_too_old timing plan.requests.items plan.flows.items delays need limit then NeedTooOld place ∷ []
+          else []) o []) (NeedTooOld k)
           → IsOld timing plan delays k
       go None none found = absurd (none_of (NeedTooOld k) found)
       go (Some limit) within found = by limit within (is_too_old timing plan.requests.items plan.flows.items delays need limit) refl found
@@ -84,17 +88,18 @@ module _ (timing : Timing) (plan : Plan) (delays : List (Option Delay)) where
                   old_at k (0 + its.k) its.value (ap (slice_get plan.needs.items) (let e : 0 + its.k ≡ its.k = omega arith in e) ∙ its.value_is) its.reported
               | inr asked ↦ absurd (let its = of_asked plan.requests.items plan.flows.items (NeedTooOld k) asked in not_asked its.0 k its.4)
             ]
-        | inl others ↦ elim (Contains-append_cases (lines_of_each without_period 0 delays) (overload timing load ++ lines_of_each lateness 0 delays) (NeedTooOld k) others) [
-          | inl unpaced ↦
-              let its = reported_at without_period 0 delays (NeedTooOld k) unpaced in
-              absurd (no_period (0 + its.k) k (of_unpaced (0 + its.k) its.value (NeedTooOld k) its.reported).1)
-          | inr more ↦ elim (Contains-append_cases (overload timing load) (lines_of_each lateness 0 delays) (NeedTooOld k) more) [
-            | inl too_much ↦ absurd (no_load load k (of_overload timing load (NeedTooOld k) too_much).1)
-            | inr late ↦
-                let its = reported_at lateness 0 delays (NeedTooOld k) late in
-                absurd (not_late (0 + its.k) k (of_late (0 + its.k) its.value (NeedTooOld k) its.reported))
-          ]
-        ]
+        | inl others ↦ elim (Contains-append_cases (lines_of_each without_period 0 delays) (overload timing load ++ lines_of_each lateness 0 delays)
+            (NeedTooOld k) others) [
+              | inl unpaced ↦
+                  let its = reported_at without_period 0 delays (NeedTooOld k) unpaced in
+                  absurd (no_period (0 + its.k) k (of_unpaced (0 + its.k) its.value (NeedTooOld k) its.reported).1)
+              | inr more ↦ elim (Contains-append_cases (overload timing load) (lines_of_each lateness 0 delays) (NeedTooOld k) more) [
+                | inl too_much ↦ absurd (no_load load k (of_overload timing load (NeedTooOld k) too_much).1)
+                | inr late ↦
+                    let its = reported_at lateness 0 delays (NeedTooOld k) late in
+                    absurd (not_late (0 + its.k) k (of_late (0 + its.k) its.value (NeedTooOld k) its.reported))
+              ]
+            ]
       ]
     where
       no_period : (i j : ℕ) → NeedTooOld j ≡ NoPeriod i → ⊥
@@ -112,9 +117,11 @@ module _ (timing : Timing) (plan : Plan) (delays : List (Option Delay)) where
   reported_old : (load k : ℕ) → IsOld timing plan delays k → Contains (all_findings plan timing load delays) (NeedTooOld k)
   reported_old load k its =
       Contains-append_right (load_findings timing load delays) (further_findings plan timing delays) (NeedTooOld k)
-      (Contains-append_left (old_needs timing plan.requests.items plan.flows.items delays plan.needs.items) (flows_asked_too_often plan.requests.items plan.flows.items) (NeedTooOld k)
+      (Contains-append_left (old_needs timing plan.requests.items plan.flows.items delays plan.needs.items)
+      (flows_asked_too_often plan.requests.items plan.flows.items) (NeedTooOld k)
       (line_reported reports 0 plan.needs.items k its.need (NeedTooOld k) its.at
-      (subst (λ o. Contains (option_map_or (λ limit. if is_too_old timing plan.requests.items plan.flows.items delays its.need limit then NeedTooOld (0 + k) ∷ [] else []) o []) (NeedTooOld k))
+      (subst (λ o. Contains (option_map_or (λ limit. if is_too_old timing plan.requests.items plan.flows.items delays its.need limit then NeedTooOld (0 + k)
+      ∷ [] else []) o []) (NeedTooOld k))
       (sym its.within) (subst (λ b. Contains (if b then NeedTooOld (0 + k) ∷ [] else []) (NeedTooOld k)) (sym its.old)
       (subst (λ n. Contains (NeedTooOld n ∷ []) (NeedTooOld k)) (let e : k ≡ 0 + k = omega arith in e) (itself (NeedTooOld k)))))))
 
@@ -149,7 +156,8 @@ covered_by line d v w covered c p at_p =
 module _ (line : ProductLine) (v w : List ℕ) (is_v : IsVariant line.choices.items v) (is_w : IsVariant line.choices.items w) (d : ℕ)
     (covered : IsCoveredFor line (Some d) v w) (asked : is_need_asked_for line w d ≡ true) (these those : WhatIsThere) (are_these : IsWhatIsThere line v these)
     (are_those : IsWhatIsThere line w those) (part whole : Plan) (here : IsVariantPlan line v part) (there : IsVariantPlan line w whole) (need : NeedPlan)
-    (at_d : slice_get line.plan.needs.items d ≡ Some need) (e f : NeedPlan) (made : move_need line v need ≡ Some e) (made_there : move_need line w need ≡ Some f) where
+    (at_d : slice_get line.plan.needs.items d ≡ Some need) (e f : NeedPlan) (made : move_need line v need ≡ Some e)
+    (made_there : move_need line w need ≡ Some f) where
   abbrev by : IsCoveredBy line v w
   by = covered_by line d v w covered
 
@@ -181,7 +189,8 @@ module _ (line : ProductLine) (v w : List ℕ) (is_v : IsVariant line.choices.it
       let (i, x, at_x, met, same) = come one.i one.value one.value_is one.passes in
       ap (λ b. not (not b)) (at_any (meets part.requests.items e) part.flows.items i x at_x met)
 
-  module _ (good : HasGoodNumbers whole) (k l : ℕ) (at_k : slice_get part.needs.items k ≡ Some e) (at_l : slice_get whole.needs.items l ≡ Some f) (within : f.within ≡ e.within)
+  module _ (good : HasGoodNumbers whole) (k l : ℕ) (at_k : slice_get part.needs.items k ≡ Some e) (at_l : slice_get whole.needs.items l ≡ Some f)
+      (within : f.within ≡ e.within)
       (others there_others : List LoadFinding) (found : Contains others (NeedTooOld k)) where
     by_timing : (o : Option Timing) → AreLoadFindings part (option_map (with_claims part) o) others
         → AreLoadFindings whole (option_map (with_claims whole) o) there_others → Contains there_others (NeedTooOld l)
@@ -208,4 +217,5 @@ module _ (line : ProductLine) (v w : List ℕ) (is_v : IsVariant line.choices.it
     unfolding timing_of
     old_there are are_there =
         by_timing part.timing are
-        (subst (λ o. AreLoadFindings whole (option_map (with_claims whole) o) there_others) (sym (is_part_at line v w by part whole here there).timing) are_there)
+        (subst (λ o. AreLoadFindings whole (option_map (with_claims whole) o) there_others)
+        (sym (is_part_at line v w by part whole here there).timing) are_there)

@@ -88,7 +88,8 @@ change_nothing line nevers v = record {
 -- ---- whether a finding counts what is there is reported by its number and its place
 
 abbrev goes_by : ProductLine → Rank → Bool
-goes_by line rank = not (((rank.number == 3) || ((rank.number == 17) || ((rank.number == 18) || ((rank.number == 20) || (rank.number == 31))))) || ((rank.number == 28) && has_end_in_pool line rank.first))
+goes_by line rank = not (((rank.number == 3) || ((rank.number == 17) || ((rank.number == 18) || ((rank.number == 20) || (rank.number == 31)))))
+    || ((rank.number == 28) && has_end_in_pool line rank.first))
 
 plan_by_rank : (line : ProductLine) (finding : Finding) → goes_by_conditions line (OfPlan finding) ≡ goes_by line (rank_of (OfPlan finding))
 plan_by_rank line (SameName i j) = refl
@@ -166,7 +167,8 @@ module _ (line : ProductLine) (nevers : LineNevers) (count : CountNothingWith li
   not_there finding there all present (inr (other, one, also, rank, amount)) =
       by_rank line finding ∙ ap (goes_by line) (sym rank) ∙ sym (by_rank line other) ∙ all other one also
 
-  plan_goes : (finding : Finding) → IsFound here (OfPlan finding) → goes_by_conditions line (OfPlan finding) ≡ false → goes_by_conditions line (OfPlan finding) ≡ true
+  plan_goes : (finding : Finding) → IsFound here (OfPlan finding) → goes_by_conditions line (OfPlan finding) ≡ false
+      → goes_by_conditions line (OfPlan finding) ≡ true
   plan_goes finding one counts =
       let (w, full, covers) = have_what_is_found bare v (possible_to line nevers v possible) here (findings_to line nevers v here of_here) in
       let nothing = count.full w full in

@@ -1,5 +1,6 @@
 -- The variants that take alternatives of one of some sets alone are made choice by choice.
-use Rattle.std.proofs.Common.{◌≡◌, ℕ, zero, suc, ◌+◌, ◌<◌, List, [], ◌∷◌, ◌++◌, Bool, true, filter, get_or, inl, inr, drop, length, map, refl, sym, ap, subst, ◌∙◌, arith, append_assoc}
+use Rattle.std.proofs.Common.{◌≡◌, ℕ, zero, suc, ◌+◌, ◌<◌, List, [], ◌∷◌, ◌++◌, Bool, true, filter, get_or, inl, inr, drop, length, map, refl, sym, ap, subst}
+use Rattle.std.proofs.Common.{◌∙◌, arith, append_assoc}
 use Rattle.std.specs.List.{list_any, range_with_len}
 use Rattle.std.proofs.lemmas.Bool.{cases_Bool}
 use Rattle.std.proofs.lemmas.List.{append-nil}
@@ -91,7 +92,8 @@ begun_in_order sets vs (c ∷ cs) is =
 
 -- ---- which they are
 
-reached : (sets : List (List Alternative)) (cs : List Choice) (vs : List (List ℕ)) (t v : List ℕ) → IsOneOf vs t → Fits cs v → is_of_some_set sets (t ++ v) ≡ true
+reached : (sets : List (List Alternative)) (cs : List Choice) (vs : List (List ℕ)) (t v : List ℕ) → IsOneOf vs t → Fits cs v
+    → is_of_some_set sets (t ++ v) ≡ true
     → IsOneOf (begun_behind sets vs cs) (t ++ v)
 reached sets [] vs t [] at fits is = subst (IsOneOf vs) (sym (append-nil t)) at
 reached sets [] vs t (p ∷ v) at fits is = absurd fits
@@ -128,7 +130,8 @@ all_of_any sets (c ∷ cs) vs all w at =
 pub are_begun : (sets : List (List Alternative)) (choices : List Choice) → AreVariantsOfSets choices sets (begun sets choices)
 are_begun sets choices = record {
   complete = λ v is any.
-      reached sets choices (keep sets ([] ∷ [])) [] v (kept_one (is_of_some_set sets) ([] ∷ []) [] (inl refl) (any_first sets [] v any)) (fits_from choices v is) any;
+      reached sets choices (keep sets ([] ∷ [])) [] v (kept_one (is_of_some_set sets) ([] ∷ []) [] (inl refl) (any_first sets [] v any))
+      (fits_from choices v is) any;
   are_variants = λ v at.
       let made = came sets choices (keep sets ([] ∷ [])) v at in
       elim (one_kept (is_of_some_set sets) ([] ∷ []) made.0 made.2).0 [

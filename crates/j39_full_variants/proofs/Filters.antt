@@ -1,5 +1,6 @@
 -- Lists that grow by one element, and what of them passes a test.
-use Rattle.std.proofs.Common.{◌≡◌, ℕ, ◌+◌, ◌<◌, List, [], ◌∷◌, ◌++◌, Bool, true, false, filter, get_or, inl, inr, map, length, refl, sym, ap, subst, take, ◌∙◌, append_assoc}
+use Rattle.std.proofs.Common.{◌≡◌, ℕ, ◌+◌, ◌<◌, List, [], ◌∷◌, ◌++◌, Bool, true, false, filter, get_or, inl, inr, map, length, refl, sym, ap, subst, take, ◌∙◌}
+use Rattle.std.proofs.Common.{append_assoc}
 use Rattle.std.proofs.lemmas.Bool.{cases_Bool, false≢true}
 use Rattle.std.proofs.lemmas.List.{map-append, take_more}
 use Rattle.j39_line_findings.specs.AllVariants.{IsOneOf}

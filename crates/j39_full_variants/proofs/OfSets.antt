@@ -70,7 +70,8 @@ named (b ∷ set) v c p at is = elim (cases_Bool (is_one_alternative b (alternat
       let same : b ≡ alternative_at c p = one_same b (alternative_at c p) here in
       let takes : takes_alternative v (alternative_at c p) ≡ true = rw at (eq-eqb p p refl) in
       let so : ((b.choice == c) && takes_alternative v b) ≡ true =
-      subst (λ x. ((x.choice == c) && takes_alternative v x) ≡ true) (sym same) (and_so (c == c) (takes_alternative v (alternative_at c p)) (eq-eqb c c refl) takes) in
+      subst (λ x. ((x.choice == c) && takes_alternative v x) ≡ true) (sym same)
+      (and_so (c == c) (takes_alternative v (alternative_at c p)) (eq-eqb c c refl) takes) in
       rw so refl
   | inr none ↦ elim (cases_Bool ((b.choice == c) && takes_alternative v b)) [
     | inl so ↦ rw so refl

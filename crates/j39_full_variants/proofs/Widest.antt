@@ -66,7 +66,8 @@ more_inside sets kept n t is at inside = record {
 
 -- it is inside none of them, and those inside it are left out
 more_outside : (sets kept : List (List Alternative)) (n : List Alternative) → AreWidest sets kept
-    → ((s : List Alternative) → IsSetAmong kept s → is_set_inside n s ≡ false) → AreWidest (sets ++ n ∷ []) (filter (λ s. not (is_set_inside s n)) kept ++ n ∷ [])
+    → ((s : List Alternative) → IsSetAmong kept s → is_set_inside n s ≡ false)
+    → AreWidest (sets ++ n ∷ []) (filter (λ s. not (is_set_inside s n)) kept ++ n ∷ [])
 more_outside sets kept n is none =
     let left : List (List Alternative) = filter (λ s. not (is_set_inside s n)) kept in
     record {
@@ -109,14 +110,16 @@ module _ (choices : List Choice) (sets : List (List Alternative)) (n : List Alte
       → AreWidest (with_each_choice choices (sets ++ n ∷ [])) kept
   add_lacking kept none is = subst (λ xs. AreWidest xs kept) (sym (last_left (has_each_choice choices) sets n none)) is
 
-  pub add_inside : {V : Type 0} (f : V → List Alternative) (kept : List V) → has_each_choice choices n ≡ true → list_any (λ x. is_set_inside n (f x)) kept ≡ true
+  pub add_inside : {V : Type 0} (f : V → List Alternative) (kept : List V) → has_each_choice choices n ≡ true
+      → list_any (λ x. is_set_inside n (f x)) kept ≡ true
       → AreWidest (with_each_choice choices sets) (map f kept) → AreWidest (with_each_choice choices (sets ++ n ∷ [])) (map f kept)
   add_inside f kept each inside is =
       let some = in_some f n kept inside in
       subst (λ xs. AreWidest xs (map f kept)) (sym (last_kept (has_each_choice choices) sets n each))
       (more_inside (with_each_choice choices sets) (map f kept) n some.0 is some.1 some.2)
 
-  pub add_outside : {V : Type 0} (f : V → List Alternative) (kept : List V) → has_each_choice choices n ≡ true → list_any (λ x. is_set_inside n (f x)) kept ≡ false
+  pub add_outside : {V : Type 0} (f : V → List Alternative) (kept : List V) → has_each_choice choices n ≡ true
+      → list_any (λ x. is_set_inside n (f x)) kept ≡ false
       → AreWidest (with_each_choice choices sets) (map f kept)
       → AreWidest (with_each_choice choices (sets ++ n ∷ [])) (map f (filter (λ x. not (is_set_inside (f x) n)) kept) ++ n ∷ [])
   add_outside f kept each none is =

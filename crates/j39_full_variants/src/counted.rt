@@ -7,7 +7,8 @@ ghost use Rattle.j39_line_findings.specs.VariantAnswers.{IsVariantAnswer};
 ghost use Rattle.j39_load.specs.BusTimes.{timing_of};
 ghost use Rattle.j39_line_findings.specs.declared.line_finding.LineFinding.{LineFinding as LineFindings};
 ghost use Rattle.j39_line_findings.specs.declared.witnessed.Witnessed.{Witnessed as Witnesses};
-ghost use Rattle.j39_full_variants.specs.CountedFindings.{AreCountedFindings, AreCountedIn, counted_of, is_looked_for, takes_full_for, takes_full_of_need};
+ghost use Rattle.j39_full_variants.specs.CountedFindings.{AreCountedFindings, AreCountedIn, counted_of, is_looked_for};
+ghost use Rattle.j39_full_variants.specs.CountedFindings.{takes_full_for, takes_full_of_need};
 ghost use Rattle.j39_full_variants.specs.SetVariants.{AreEarliestFirst, takes_alone};
 
 use crate::set_variants::takes_alone;
@@ -98,7 +99,8 @@ fn add_of_variant(
     known: &VariantAnswer,
 ) -> Result<(), AllocError>
     requires { IsVariantAnswer line.now variant.now known.now }
-    ensures { OnOk result ((all : List Witnesses) → AreBest all reported.old.items → (findings : List LineFindings) × AreVariantFindings line.now variant.now findings
+    ensures { OnOk result ((all : List Witnesses) → AreBest all reported.old.items → (findings : List LineFindings)
+        × AreVariantFindings line.now variant.now findings
         × AreBest (all ++ counted_of line.now full.now place variant.now findings) reported.new.items) }
 {
     let findings = known.findings(alloc, line, variant)?;
@@ -134,7 +136,8 @@ fn find_counted(
     variants: &[Vec<usize>],
     timed: bool,
 ) -> Result<(Vec<Witnessed>, LineTimes), AllocError>
-    ensures counted { IfOk result (λ found. AreCountedIn line.now full.now (map (λ v. v.items) variants.now) found.0.items) }
+    ensures counted { IfOk result (λ found. AreCountedIn line.now full.now
+        (map (λ v. v.items) variants.now) found.0.items) }
     ensures times { IfOk result (λ found. timed ≡ true → timing_of line.now.plan ≢ None
         → AreTimesAmong line.now (map (λ v. v.items) variants.now) found.1) }
 {
@@ -151,9 +154,9 @@ fn find_counted(
 
 /// What these variants, which stand in order, have that counts what is there: too few addresses, too high a load, late
 /// flows, and flows with an end that is contested at an address to which units move, where a variant takes full
-/// alternatives of the line alone; and needs that are too old, where it takes those alone that are full for the need. Each
-/// once, with the greatest number of addresses or bits, and with the place of the first variant that has it so. And what
-/// is reported of the times of a line whose bus is known, where these are asked for.
+/// alternatives of the line alone; and needs that are too old, where it takes those alone that are full for the need.
+/// Each once, with the greatest number of addresses or bits, and with the place of the first variant that has it so.
+/// And what is reported of the times of a line whose bus is known, where these are asked for.
 pub fn counted_findings(
     alloc: Global,
     line: &ProductLine,
@@ -162,7 +165,8 @@ pub fn counted_findings(
     timed: bool,
 ) -> Result<(Vec<Witnessed>, LineTimes), AllocError>
     requires { AreEarliestFirst (map (λ v. v.items) variants.now) }
-    ensures counted { IfOk result (λ found. AreCountedFindings line.now full.now (map (λ v. v.items) variants.now) found.0.items) }
+    ensures counted { IfOk result (λ found. AreCountedFindings line.now full.now
+        (map (λ v. v.items) variants.now) found.0.items) }
     ensures times { IfOk result (λ found. timed ≡ true → timing_of line.now.plan ≢ None
         → AreTimesAmong line.now (map (λ v. v.items) variants.now) found.1) }
 {

@@ -52,7 +52,8 @@ fn add_sets(
 ) -> Result<(), AllocError>
     ensures { OnOk result ((before : List (List Alternatives))
         → AreWidest (with_each_choice choices.now before) (map (λ s. s.items) kept.old.items)
-        → AreWidest (with_each_choice choices.now (before ++ map (λ s. s.items) sets.now)) (map (λ s. s.items) kept.new.items)) }
+        → AreWidest (with_each_choice choices.now (before ++ map (λ s. s.items) sets.now))
+        (map (λ s. s.items) kept.new.items)) }
 {
     for set in sets {
         add_set(alloc, kept, choices, set)?;
@@ -60,14 +61,15 @@ fn add_sets(
     Ok(())
 }
 
-/// The sets of full alternatives of a line that count: of equal ones one, and none that is inside another, or has none of
-/// some choice.
+/// The sets of full alternatives of a line that count: of equal ones one, and none that is inside another, or has none
+/// of some choice.
 pub fn widest_sets(
     alloc: Global,
     line: &ProductLine,
     full: &FullAlternatives,
 ) -> Result<Vec<Vec<Alternative>>, AllocError>
-    ensures { IfOk result (λ kept. AreWidest (with_each_choice line.now.choices.items (full_sets line.now full.now)) (map (λ s. s.items) kept.items)) }
+    ensures { IfOk result (λ kept. AreWidest (with_each_choice line.now.choices.items (full_sets line.now full.now))
+        (map (λ s. s.items) kept.items)) }
 {
     let mut kept = Vec::new(alloc);
     add_set(alloc, &mut kept, &line.choices, &full.all)?;
@@ -80,7 +82,8 @@ pub fn widest_sets(
 
 /// How many variants the sets have, at most so many as 64 bits hold: one of several sets counts for each.
 pub fn number_of_variants(line: &ProductLine, sets: &[Vec<Alternative>]) -> u64
-    ensures { result ≡ min (sum (map (variants_of_set line.now.choices.items) (map (λ s. s.items) sets.now))) (2 ^ 64 - 1) }
+    ensures { result ≡ min (sum (map (variants_of_set line.now.choices.items) (map (λ s. s.items) sets.now)))
+        (2 ^ 64 - 1) }
 {
     let mut count: u64 = 0;
     for set in sets {
@@ -99,7 +102,8 @@ fn is_built(line: &ProductLine, nevers: LineNevers, variant: &[usize]) -> bool
 }
 
 fn keep_built(line: &ProductLine, nevers: LineNevers, variants: &mut Vec<Vec<usize>>)
-    ensures { variants.new.items ≡ filter (λ v. is_possible (line_with nevers line.now).nevers.items v.items) variants.old.items }
+    ensures { variants.new.items ≡ filter (λ v. is_possible
+        (line_with nevers line.now).nevers.items v.items) variants.old.items }
 {
     variants.retain(|variant| is_built(line, nevers, variant));
 }

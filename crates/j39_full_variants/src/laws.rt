@@ -20,8 +20,8 @@ pub fn needs_have_their_full_alternatives()
     ensures { NeedsHaveTheirLists }
 {}
 
-/// Each possible variant is looked at that takes full alternatives of the line alone, or those alone that are full for a
-/// need.
+/// Each possible variant is looked at that takes full alternatives of the line alone, or those alone that are full for
+/// a need.
 pub fn full_variants_are_looked_at()
     ensures { FullVariantsAreLookedAt }
 {}

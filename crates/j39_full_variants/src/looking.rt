@@ -1,7 +1,8 @@
 //! At which full variants of a line is looked.
 ghost use Rattle.std.specs.Prelude.{◌≡◌, IfOk, true};
 ghost use Rattle.j39_line_findings.specs.declared.full.LineNevers.TheVariants.{Kept};
-ghost use Rattle.j39_full_variants.specs.LookedVariants.{IsLooking, IsLookingWith, HasTimes, has_bad_number, is_bad_number};
+ghost use Rattle.j39_full_variants.specs.LookedVariants.{IsLooking, IsLookingWith, HasTimes, has_bad_number};
+ghost use Rattle.j39_full_variants.specs.LookedVariants.{is_bad_number};
 ghost use Rattle.j39_full_variants.specs.declared.looking.Looking.TheVariants.{Many};
 
 use crate::counted::counted_findings;
@@ -104,9 +105,9 @@ fn look_without_nevers(
     }
 }
 
-/// The full variants of a line, and what is found of them. Where they are too many, those of the line without its nevers,
-/// where these aren't, nothing is found of them, and no group of the file has a bad number. With what is reported of
-/// their times, where these are asked for.
+/// The full variants of a line, and what is found of them. Where they are too many, those of the line without its
+/// nevers, where these aren't, nothing is found of them, and no group of the file has a bad number. With what is
+/// reported of their times, where these are asked for.
 pub fn look(alloc: Global, line: &ProductLine, timed: bool) -> Result<Looking, AllocError>
     ensures looking { IfOk result (IsLooking line.now) }
     ensures times { timed ≡ true → IfOk result (HasTimes line.now) }

@@ -60,7 +60,8 @@ pub fn variants_of_sets(
     choices: &[Choice],
     sets: &[Vec<Alternative>],
 ) -> Result<Vec<Vec<usize>>, AllocError>
-    ensures { IfOk result (λ all. AreVariantsOfSets choices.now (map (λ set. set.items) sets.now) (map (λ v. v.items) all.items)) }
+    ensures { IfOk result (λ all. AreVariantsOfSets choices.now (map (λ set. set.items) sets.now)
+        (map (λ v. v.items) all.items)) }
 {
     let mut all = Vec::new(alloc);
     all.push(Vec::new(alloc))?;

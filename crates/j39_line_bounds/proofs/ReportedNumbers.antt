@@ -3,7 +3,8 @@ use Rattle.std.proofs.Common.{◌≡◌, ℕ, ◌≤◌, false, Option, Some, No
 use Rattle.std.proofs.lemmas.Bool.{ltb-false, true≢false}
 use Rattle.j39_load.specs.declared.waits.delay.Delay.TheVariants.{Within, Beyond, Late, Whole}
 use Rattle.j39_variants.specs.declared.line.ProductLine.{ProductLine}
-use Rattle.j39_line_bounds.specs.LineTimes.{AreNoWorse, BoundNumbers, ReportedNumbersBoundTimes, badness_known, time_of_flow, flow_badness, is_less_bad, time_of_need, need_badness, of_degree, time_reported}
+use Rattle.j39_line_bounds.specs.LineTimes.{AreNoWorse, BoundNumbers, ReportedNumbersBoundTimes, badness_known, time_of_flow, flow_badness, is_less_bad}
+use Rattle.j39_line_bounds.specs.LineTimes.{time_of_need, need_badness, of_degree, time_reported}
 use Rattle.j39_line_bounds.specs.declared.times.Badness.{Badness}
 use Rattle.j39_line_bounds.specs.declared.times.FlowTime.TheVariants as flow
 use Rattle.j39_line_bounds.specs.declared.times.LineTimes.{LineTimes as Times}
@@ -27,21 +28,27 @@ module _ (line : ProductLine) (reported times : Times) (are : AreNoWorse line ti
   numbers : BoundNumbers line reported times
   numbers = record {
     never_late = λ f below a is here.
-        true≢false (of_both flow_badness (time_of_flow reported f) (time_of_flow times f) (flow.Reported (Some (Within a))) (flow.Reported (Some Late)) is here (are.flows f below));
+        true≢false (of_both flow_badness (time_of_flow reported f) (time_of_flow times f) (flow.Reported (Some (Within a))) (flow.Reported (Some Late)) is here
+        (are.flows f below));
     never_beyond = λ f below a b is here.
         true≢false
-        (of_both flow_badness (time_of_flow reported f) (time_of_flow times f) (flow.Reported (Some (Within a))) (flow.Reported (Some (Beyond b))) is here (are.flows f below));
+        (of_both flow_badness (time_of_flow reported f) (time_of_flow times f) (flow.Reported (Some (Within a))) (flow.Reported (Some (Beyond b))) is here
+        (are.flows f below));
     delays = λ f below a b is here.
         no_more a b
-        (of_both flow_badness (time_of_flow reported f) (time_of_flow times f) (flow.Reported (Some (Within a))) (flow.Reported (Some (Within b))) is here (are.flows f below));
+        (of_both flow_badness (time_of_flow reported f) (time_of_flow times f) (flow.Reported (Some (Within a))) (flow.Reported (Some (Within b))) is here
+        (are.flows f below));
     never_unknown = λ f below a is here.
-        true≢false (of_both flow_badness (time_of_flow reported f) (time_of_flow times f) (flow.Reported (Some (Beyond a))) (flow.Reported (Some Late)) is here (are.flows f below));
+        true≢false (of_both flow_badness (time_of_flow reported f) (time_of_flow times f) (flow.Reported (Some (Beyond a))) (flow.Reported (Some Late)) is here
+        (are.flows f below));
     late_delays = λ f below a b is here.
         no_later a b
-        (of_both flow_badness (time_of_flow reported f) (time_of_flow times f) (flow.Reported (Some (Beyond a))) (flow.Reported (Some (Beyond b))) is here (are.flows f below));
+        (of_both flow_badness (time_of_flow reported f) (time_of_flow times f) (flow.Reported (Some (Beyond a))) (flow.Reported (Some (Beyond b))) is here
+        (are.flows f below));
     whole = λ f below w v a is is_known here.
         known (time_reported w) (time_reported v) a is_known
-        (of_both flow_badness (time_of_flow reported f) (time_of_flow times f) (flow.Reported (Some (Whole w))) (flow.Reported (Some (Whole v))) is here (are.flows f below));
+        (of_both flow_badness (time_of_flow reported f) (time_of_flow times f) (flow.Reported (Some (Whole w))) (flow.Reported (Some (Whole v))) is here
+        (are.flows f below));
     ages = λ d below a age y x is here.
         known (Some a) age a refl
         (of_both need_badness (time_of_need reported d) (time_of_need times d) (need.Age (Some a) y) (need.Age age x) is here (are.needs d below));

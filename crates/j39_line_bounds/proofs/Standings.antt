@@ -1,5 +1,6 @@
 -- What is reported of units, with one variant more.
-use Rattle.std.proofs.Common.{◌≡◌, ℕ, zero, suc, ◌+◌, ◌<◌, List, [], ◌∷◌, ◌++◌, Bool, true, false, Option, Some, None, inl, inr, get_or, length, map, take, refl, sym, ap, ◌∙◌, arith, subst}
+use Rattle.std.proofs.Common.{◌≡◌, ℕ, zero, suc, ◌+◌, ◌<◌, List, [], ◌∷◌, ◌++◌, Bool, true, false, Option, Some, None, inl, inr, get_or, length, map, take}
+use Rattle.std.proofs.Common.{refl, sym, ap, ◌∙◌, arith, subst}
 use Rattle.std.specs.Bool.{MatchBool}
 use Rattle.std.specs.Prelude.{if◌then◌else◌}
 use Rattle.std.specs.List.{range_with_len, slice_get}
@@ -16,7 +17,8 @@ use Rattle.j39_line_findings.specs.AllVariants.{IsOneOf}
 use Rattle.j39_line_findings.proofs.OneOf.{one_cases, one_left, one_right}
 use Rattle.j39_line_findings.proofs.Tests.{value_inside}
 use Rattle.j39_line_findings.specs.MissedNeeds.{is_unit_there}
-use Rattle.j39_line_bounds.specs.LineStandings.{AreStandingsAmong, HasOneStanding, HasPlace, HasLineUnit, IsLineStanding, IsStandingAmong, LacksUnit, MayMoveIn, StandingsAreExact, StaysIn}
+use Rattle.j39_line_bounds.specs.LineStandings.{AreStandingsAmong, HasOneStanding, HasPlace, HasLineUnit, IsLineStanding, IsStandingAmong, LacksUnit, MayMoveIn}
+use Rattle.j39_line_bounds.specs.LineStandings.{StandingsAreExact, StaysIn}
 use Rattle.j39_line_bounds.specs.declared.standing.LineStanding.{LineStanding}
 use Rattle.j39_line_bounds.specs.declared.standing.LineStanding.TheVariants.{NoVariant, Stays, MayMove}
 use Rattle.j39_line_bounds.specs.inside.StandingSteps.{standing_at, standing_with, stays_in_variant, with_variant}
@@ -29,7 +31,8 @@ Here line v u None = LacksUnit line v u
 Here line v u (Some true) = HasLineUnit line v u × StaysIn line v u
 Here line v u (Some false) = MayMoveIn line v u
 
-module _ (line : ProductLine) (v : List ℕ) (plan : Plan) (stays : UnitPlan → Bool) (is : IsVariantPlan line v plan) (decides : DecidesWhoStays plan stays) (u : ℕ)
+module _ (line : ProductLine) (v : List ℕ) (plan : Plan) (stays : UnitPlan → Bool) (is : IsVariantPlan line v plan) (decides : DecidesWhoStays plan stays)
+    (u : ℕ)
     (unit : UnitPlan) (at : slice_get line.plan.units.items u ≡ Some unit) where
   decided : (p : ℕ) → HasPlace line v u p
       → MatchBool (stays unit) (StaysBeside plan.strangers (units_of plan) p) (¬ StaysBeside plan.strangers (units_of plan) p)

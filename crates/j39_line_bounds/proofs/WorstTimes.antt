@@ -1,5 +1,6 @@
 -- The worst of what is reported of variants, one after the other.
-use Rattle.std.proofs.Common.{◌≡◌, ◌⊎◌, ℕ, ◌+◌, ◌<◌, ◌≤◌, List, [], ◌∷◌, ◌++◌, Bool, true, false, ◌&&◌, ◌||◌, nat_lt, inl, inr, get_or, length, map, max, refl, sym, ap, ◌∙◌, arith, subst}
+use Rattle.std.proofs.Common.{◌≡◌, ◌⊎◌, ℕ, ◌+◌, ◌<◌, ◌≤◌, List, [], ◌∷◌, ◌++◌, Bool, true, false, ◌&&◌, ◌||◌, nat_lt, inl, inr, get_or, length, map, max, refl}
+use Rattle.std.proofs.Common.{sym, ap, ◌∙◌, arith, subst}
 use Rattle.std.specs.Prelude.{◌==◌, if◌then◌else◌}
 use Rattle.std.specs.List.{range_with_len}
 use Rattle.std.proofs.Math.Nat.{le-max_left, le-max_right}
@@ -7,7 +8,8 @@ use Rattle.std.proofs.lemmas.Bool.{cases_Bool, eq-eqb, eqb-true, false≢true, l
 use Rattle.std.proofs.lemmas.List.FromFn.{get_or-map-range_with_len, length-map-range_with_len}
 use Rattle.j39_variants.specs.declared.line.ProductLine.{ProductLine}
 use Rattle.j39_line_findings.proofs.OneOf.{one_cases, one_left, one_right}
-use Rattle.j39_line_bounds.specs.LineTimes.{AreWorst, IsGreatestLoad, IsTimesAmong, IsWorst, time_of_flow, flow_badness, is_less_bad, time_of_need, need_badness, worse}
+use Rattle.j39_line_bounds.specs.LineTimes.{AreWorst, IsGreatestLoad, IsTimesAmong, IsWorst, time_of_flow, flow_badness, is_less_bad, time_of_need}
+use Rattle.j39_line_bounds.specs.LineTimes.{need_badness, worse}
 use Rattle.j39_line_bounds.specs.declared.times.Badness.{Badness}
 use Rattle.j39_line_bounds.specs.declared.times.FlowTime.TheVariants as flow
 use Rattle.j39_line_bounds.specs.declared.times.LineTimes.{LineTimes as Times}
@@ -65,7 +67,8 @@ still_not_less a b t below never = not_less b t (λ is.
 
 -- ---- with one more
 
-module _ {T : Type 0} (bad : T → Badness) (nothing : T) (at : Times → T) (each : List Times) (more : Times) (worst : T) (is : IsWorst bad nothing at each worst) where
+module _ {T : Type 0} (bad : T → Badness) (nothing : T) (at : Times → T) (each : List Times) (more : Times) (worst : T)
+    (is : IsWorst bad nothing at each worst) where
   reported_of_one : (b : Bool) → ((if b then at more else worst) ≡ nothing)
       ⊎ ((times : Times) × IsTimesAmong (each ++ more ∷ []) times × ((if b then at more else worst) ≡ at times))
   reported_of_one true = inr (more, one_right each (more ∷ []) more (inl refl), refl)
@@ -78,7 +81,8 @@ module _ {T : Type 0} (bad : T → Badness) (nothing : T) (at : Times → T) (ea
       → is_less_bad (bad (if b then at more else worst)) (bad (at times)) ≡ false
   not_less_than true below times among = elim (one_cases each (more ∷ []) times among) [
     | inl old ↦ still_not_less (bad worst) (bad (at more)) (bad (at times)) below (is.none_worse times old)
-    | inr (inl same) ↦ subst (λ t. is_less_bad (bad (at more)) (bad (at t)) ≡ false) same (not_less (bad (at more)) (bad (at more)) (not_itself (bad (at more))))
+    | inr (inl same) ↦ subst (λ t. is_less_bad (bad (at more)) (bad (at t)) ≡ false) same
+        (not_less (bad (at more)) (bad (at more)) (not_itself (bad (at more))))
     | inr (inr none) ↦ absurd none
   ]
   not_less_than false never times among = elim (one_cases each (more ∷ []) times among) [

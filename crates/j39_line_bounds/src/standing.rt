@@ -5,7 +5,8 @@ ghost use Rattle.j39_findings.specs.Standing.{stays_of};
 ghost use Rattle.j39_line_findings.specs.AllVariants.{IsOneOf};
 ghost use Rattle.j39_line_bounds.specs.LineStandings.{AreStandingsAmong};
 ghost use Rattle.j39_line_bounds.specs.declared.standing.LineStanding.TheVariants.{NoVariant};
-ghost use Rattle.j39_line_bounds.specs.inside.StandingSteps.{standing_at, standing_with, stays_in_variant, with_variant};
+ghost use Rattle.j39_line_bounds.specs.inside.StandingSteps.{standing_at, standing_with, stays_in_variant};
+ghost use Rattle.j39_line_bounds.specs.inside.StandingSteps.{with_variant};
 
 use j39_findings::Standing;
 use j39_line_findings::is_unit_there;
@@ -90,7 +91,8 @@ fn each_with(
     standing: &Standing,
     so_far: &[LineStanding],
 ) -> Result<Vec<LineStanding>, AllocError>
-    ensures { IfOk result (λ v. v.items ≡ map (standing_with line.now variant.now (stays_of standing.now) so_far.now) (range_with_len 0 (length so_far.now))) }
+    ensures { IfOk result (λ v. v.items ≡ map (standing_with line.now variant.now (stays_of standing.now) so_far.now)
+        (range_with_len 0 (length so_far.now))) }
 {
     (0..so_far.len())
         .map(|place| standing_with(line, variant, standing, so_far, place))
@@ -123,8 +125,8 @@ fn no_standings(alloc: Global, units: &[UnitPlan]) -> Result<Vec<LineStanding>, 
         .collect(alloc)
 }
 
-/// What is reported of each unit of a line, in order, in these variants: the places of the alternatives that each takes, choice
-/// by choice.
+/// What is reported of each unit of a line, in order, in these variants: the places of the alternatives that each
+/// takes, choice by choice.
 pub fn line_standings(
     alloc: Global,
     line: &ProductLine,

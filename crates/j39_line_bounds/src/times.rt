@@ -1,4 +1,5 @@
-//! Times of the flows, ages of what is needed, and the load of a line of vehicles: the greatest of some of its variants.
+//! Times of the flows, ages of what is needed, and the load of a line of vehicles: the greatest of some of its
+//! variants.
 ghost use Rattle.std.specs.Prelude.{◌≡◌, ◌≢◌, ◌∷◌, ◌++◌, [], ℕ, List, IfOk, None, Some, length, map};
 ghost use Rattle.j39_answer.specs.PlanAnswers.{IsBusAnswer};
 ghost use Rattle.std.specs.List.{range_with_len};
@@ -6,9 +7,12 @@ ghost use Rattle.j39_load.specs.BusTimes.{timing_of};
 ghost use Rattle.j39_line_findings.specs.VariantAnswers.{IsVariantAnswer};
 ghost use Rattle.j39_variants.specs.declared.line.ProductLine.{ProductLine as ALine};
 ghost use Rattle.j39_line_bounds.specs.declared.times.LineTimes.{LineTimes as Times};
-ghost use Rattle.j39_line_bounds.specs.LineTimes.{AreTimesAmong, AreVariantTimes, AreWorst, time_of_flow, time_of_need, worse, youngest_here};
-ghost use Rattle.j39_line_bounds.specs.LineTimes.{age_here, of_degree, badness_known, delay_badness, flow_badness, flow_time};
-ghost use Rattle.j39_line_bounds.specs.LineTimes.{is_less_bad, need_badness, need_time, place_in_variant, time_reported};
+ghost use Rattle.j39_line_bounds.specs.LineTimes.{AreTimesAmong, AreVariantTimes, AreWorst, time_of_flow, time_of_need};
+ghost use Rattle.j39_line_bounds.specs.LineTimes.{worse, youngest_here};
+ghost use Rattle.j39_line_bounds.specs.LineTimes.{age_here, of_degree, badness_known, delay_badness, flow_badness};
+ghost use Rattle.j39_line_bounds.specs.LineTimes.{flow_time};
+ghost use Rattle.j39_line_bounds.specs.LineTimes.{is_less_bad, need_badness, need_time, place_in_variant};
+ghost use Rattle.j39_line_bounds.specs.LineTimes.{time_reported};
 
 use j39_line_findings::{VariantAnswer, WhatIsThere, is_need_asked_for, place_in_file};
 use j39_load::{Delay, LoadAnswer, WholeTime, has_several, least_age, youngest_flow};
@@ -172,7 +176,8 @@ impl VariantLoad<'_> {
     // The flow of the file that brings what is needed, where several do.
     fn youngest(&self, need: &NeedPlan) -> Option<usize>
         requires { length self.now.delays.now ≡ length self.now.plan.now.flows.items }
-        ensures { result ≡ youngest_here self.now.there.now.flows.items self.now.plan.now self.now.timing self.now.delays.now need.now }
+        ensures { result
+            ≡ youngest_here self.now.there.now.flows.items self.now.plan.now self.now.timing self.now.delays.now need.now }
     {
         if !has_several(&self.plan.requests, &self.plan.flows, need) {
             return None;
@@ -192,7 +197,8 @@ impl VariantLoad<'_> {
     // The age of what a need of the variant's plan is for.
     fn age_of(&self, need: &NeedPlan) -> NeedTime
         requires { length self.now.delays.now ≡ length self.now.plan.now.flows.items }
-        ensures { result ≡ age_here self.now.there.now.flows.items self.now.plan.now self.now.timing self.now.delays.now need.now }
+        ensures { result
+            ≡ age_here self.now.there.now.flows.items self.now.plan.now self.now.timing self.now.delays.now need.now }
     {
         if !is_met(&self.plan.requests, &self.plan.flows, need) {
             return NeedTime::NoVariant;
@@ -209,7 +215,8 @@ impl VariantLoad<'_> {
 
     fn need_time(&self, place: usize) -> NeedTime
         requires { length self.now.delays.now ≡ length self.now.plan.now.flows.items }
-        ensures { result ≡ need_time self.now.line.now self.now.variant.now self.now.there.now self.now.plan.now self.now.timing self.now.delays.now place }
+        ensures { result
+            ≡ need_time self.now.line.now self.now.variant.now self.now.there.now self.now.plan.now self.now.timing self.now.delays.now place }
     {
         if !is_need_asked_for(self.line, self.variant, place) {
             return NeedTime::NoVariant;
@@ -224,7 +231,8 @@ impl VariantLoad<'_> {
     }
 
     fn flow_times(&self, alloc: Global) -> Result<Vec<FlowTime>, AllocError>
-        ensures { IfOk result (λ v. v.items ≡ map (flow_time self.now.there.now.flows.items self.now.delays.now) (range_with_len 0 (length self.now.line.now.plan.flows.items))) }
+        ensures { IfOk result (λ v. v.items ≡ map (flow_time self.now.there.now.flows.items self.now.delays.now)
+            (range_with_len 0 (length self.now.line.now.plan.flows.items))) }
     {
         (0..self.line.plan.flows.len())
             .map(|place| flow_time(&self.there.flows, self.delays, place))
@@ -233,7 +241,8 @@ impl VariantLoad<'_> {
 
     fn need_times(&self, alloc: Global) -> Result<Vec<NeedTime>, AllocError>
         requires { length self.now.delays.now ≡ length self.now.plan.now.flows.items }
-        ensures { IfOk result (λ v. v.items ≡ map (need_time self.now.line.now self.now.variant.now self.now.there.now self.now.plan.now self.now.timing self.now.delays.now) (range_with_len 0 (length self.now.line.now.plan.needs.items))) }
+        ensures { IfOk result (λ v. v.items ≡ map
+            (need_time self.now.line.now self.now.variant.now self.now.there.now self.now.plan.now self.now.timing self.now.delays.now) (range_with_len 0 (length self.now.line.now.plan.needs.items))) }
     {
         (0..self.line.plan.needs.len())
             .map(|place| self.need_time(place))
@@ -293,7 +302,8 @@ fn worse_flows(
     one: &LineTimes,
     other: &LineTimes,
 ) -> Result<Vec<FlowTime>, AllocError>
-    ensures { IfOk result (λ v. v.items ≡ map (λ f. worse flow_badness (time_of_flow one.now f) (time_of_flow other.now f)) (range_with_len 0 (length one.now.flows.items))) }
+    ensures { IfOk result (λ v. v.items ≡ map (λ f. worse flow_badness (time_of_flow one.now f)
+        (time_of_flow other.now f)) (range_with_len 0 (length one.now.flows.items))) }
 {
     (0..one.flows.len())
         .map(|place| worse_flow(one.flow(place), other.flow(place)))
@@ -305,7 +315,8 @@ fn worse_needs(
     one: &LineTimes,
     other: &LineTimes,
 ) -> Result<Vec<NeedTime>, AllocError>
-    ensures { IfOk result (λ v. v.items ≡ map (λ d. worse need_badness (time_of_need one.now d) (time_of_need other.now d)) (range_with_len 0 (length one.now.needs.items))) }
+    ensures { IfOk result (λ v. v.items ≡ map (λ d. worse need_badness (time_of_need one.now d)
+        (time_of_need other.now d)) (range_with_len 0 (length one.now.needs.items))) }
 {
     (0..one.needs.len())
         .map(|place| worse_need(one.need(place), other.need(place)))
@@ -314,7 +325,8 @@ fn worse_needs(
 
 // The worst of two.
 fn worse(alloc: Global, one: &LineTimes, other: &LineTimes) -> Result<LineTimes, AllocError>
-    ensures { IfOk result (λ worse. (line : ALine) (each : List Times) → AreWorst line each one.now → AreWorst line (each ++ other.now ∷ []) worse) }
+    ensures { IfOk result (λ worse. (line : ALine) (each : List Times) → AreWorst line each one.now
+        → AreWorst line (each ++ other.now ∷ []) worse) }
 {
     Ok(LineTimes {
         flows: worse_flows(alloc, one, other)?,
@@ -351,8 +363,8 @@ pub fn no_times(alloc: Global, line: &ProductLine) -> Result<LineTimes, AllocErr
     Ok(times)
 }
 
-/// What is reported of each flow and each need of a line whose bus is known, and its load, in one variant more: the places of
-/// the alternatives that it takes, choice by choice, with all that is known of it.
+/// What is reported of each flow and each need of a line whose bus is known, and its load, in one variant more: the
+/// places of the alternatives that it takes, choice by choice, with all that is known of it.
 pub fn times_with(
     alloc: Global,
     line: &ProductLine,
@@ -361,7 +373,8 @@ pub fn times_with(
     so_far: LineTimes,
 ) -> Result<LineTimes, AllocError>
     requires { IsVariantAnswer line.now variant.now known.now }
-    ensures { IfOk result (λ times. (variants : List (List ℕ)) → timing_of line.now.plan ≢ None → AreTimesAmong line.now variants so_far
+    ensures { IfOk result (λ times. (variants : List (List ℕ)) → timing_of line.now.plan ≢ None
+        → AreTimesAmong line.now variants so_far
         → AreTimesAmong line.now (variants ++ variant.now ∷ []) times) }
 {
     let Some(load) = &known.answer.load else {

@@ -14,7 +14,8 @@ pub none_added : AreAdded [] []
 none_added = record { in_order = tt; sound = λ t at. absurd (none_in t at); complete = λ p at. absurd (none_in p at) }
 
 -- one more
-pub added_more : (all : List Pair) (old reported : List ReportedFinding) (new : ReportedFinding) (p : Pair) → p ≡ pair_reported new → AreAdded all old → IsReportedWith old new reported
+pub added_more : (all : List Pair) (old reported : List ReportedFinding) (new : ReportedFinding) (p : Pair) → p ≡ pair_reported new → AreAdded all old
+    → IsReportedWith old new reported
     → AreAdded (all ++ p ∷ []) reported
 added_more all old reported new p is are with_it = record {
   in_order = with_it.in_order are.in_order;

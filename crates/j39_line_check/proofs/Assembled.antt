@@ -1,5 +1,6 @@
 -- What is reported of a line, from what is found by conditions and what is found of full variants.
-use Rattle.std.proofs.Common.{◌≡◌, ◌⊎◌, ℕ, ◌<◌, ◌≤◌, List, [], ◌∷◌, ◌++◌, Bool, true, false, not, ◌&&◌, ◌||◌, Some, None, inl, inr, map, unwrap_or, refl, sym, ap, subst, ◌∙◌, arith}
+use Rattle.std.proofs.Common.{◌≡◌, ◌⊎◌, ℕ, ◌<◌, ◌≤◌, List, [], ◌∷◌, ◌++◌, Bool, true, false, not, ◌&&◌, ◌||◌, Some, None, inl, inr, map, unwrap_or, refl, sym}
+use Rattle.std.proofs.Common.{ap, subst, ◌∙◌, arith}
 use Rattle.std.specs.List.{Contains, slice_get}
 use Rattle.std.proofs.lemmas.Bool.{and_parts, cases_Bool, false≢true}
 use Rattle.std.proofs.lemmas.List.Elements.{Contains-append_cases, Contains-append_left, Contains-append_right}
@@ -27,7 +28,8 @@ use Rattle.j39_line_check.specs.declared.answer.ReportedFinding.{ReportedFinding
 use Rattle.j39_line_check.specs.inside.AddedFindings.{AreAdded, Pair, pair_of_condition, pair_reported}
 
 -- of one rank there is one
-pub only_one : (reported : List Witnessed) (w x : Witnessed) → AreInOrder reported → IsWitnessAmong reported w → IsWitnessAmong reported x → rank_in w ≡ rank_in x → w ≡ x
+pub only_one : (reported : List Witnessed) (w x : Witnessed) → AreInOrder reported → IsWitnessAmong reported w → IsWitnessAmong reported x
+    → rank_in w ≡ rank_in x → w ≡ x
 only_one [] w x ordered one other same = absurd one
 only_one (y ∷ reported) w x ordered (inl first) (inl also) same = sym first ∙ also
 only_one (y ∷ reported) w x ordered (inl first) (inr later) same =

@@ -1,5 +1,6 @@
 -- What is reported of full variants is reported of all possible ones.
-use Rattle.std.proofs.Common.{◌≡◌, ℕ, zero, suc, ◌<◌, ◌≤◌, List, [], ◌∷◌, true, false, not, Option, Some, inl, inr, map, unwrap_or, refl, sym, ap, subst, ◌∙◌, arith}
+use Rattle.std.proofs.Common.{◌≡◌, ℕ, zero, suc, ◌<◌, ◌≤◌, List, [], ◌∷◌, true, false, not, Option, Some, inl, inr, map, unwrap_or, refl, sym, ap, subst, ◌∙◌}
+use Rattle.std.proofs.Common.{arith}
 use Rattle.std.specs.List.{slice_get}
 use Rattle.std.proofs.lemmas.Bool.{and_parts, false≢true, not-true, true≢false}
 use Rattle.std.proofs.lemmas.Option.{same_Some}
@@ -88,7 +89,8 @@ module _ (line : ProductLine) (covers : FullVariantsHaveWhatIsFound line) (ages 
 
   by_cover : (v : List ℕ) (f : LineFinding) → goes_by_conditions line f ≡ false → is_by_absence f ≡ false → IsPossible line v
       → (here : List LineFinding) → AreVariantFindings line v here
-      → ((w : List ℕ) → IsPossible line w → (there : List LineFinding) → AreVariantFindings line w there → AreFoundOfCovering here there → IsAbsentOrFound there f)
+      → ((w : List ℕ) → IsPossible line w → (there : List LineFinding) → AreVariantFindings line w there → AreFoundOfCovering here there
+      → IsAbsentOrFound there f)
       → IsReportedFor f
   by_cover v f counts present possible here are_here found =
       let cover = covers v possible here are_here in
@@ -150,7 +152,8 @@ module _ (line : ProductLine) (covers : FullVariantsHaveWhatIsFound line) (ages 
             let there = are.are_found.complete other (looked_at other w.finding whatever.possible takes) in
             let reported = there.2 w.finding (whatever.one there.0 there.1) (looked_for other w.finding counts takes) in
             let one : reported.witness ≡ w = only_one x.reported.items reported.witness w are.are_found.in_order reported.is_reported among reported.has_rank in
-            let at : slice_get vs w.variant ≡ Some reported.variant = subst (λ (y : Witnessed). slice_get vs y.variant ≡ Some reported.variant) one reported.at in
+            let at : slice_get vs w.variant ≡ Some reported.variant = subst
+            (λ (y : Witnessed). slice_get vs y.variant ≡ Some reported.variant) one reported.at in
             let same : reported.variant ≡ is.variant = same_Some reported.variant is.variant (sym at ∙ is.at) in
             elim reported.as_good [
               | inl less ↦

@@ -16,7 +16,8 @@ condition_of_pair (first ∷ found) p at = elim (cases_in (pair_of_condition fir
   | inr there ↦ let one = condition_of_pair found p there in (one.0, inr one.1, one.2)
 ]
 
-pub pair_of_found : (found : List FoundByCondition) (one : FoundByCondition) → IsReportedAmong found one → Contains (map pair_of_condition found) (pair_of_condition one)
+pub pair_of_found : (found : List FoundByCondition) (one : FoundByCondition) → IsReportedAmong found one → Contains (map pair_of_condition found)
+    (pair_of_condition one)
 pair_of_found [] one among = absurd among
 pair_of_found (first ∷ found) one (inl same) = rw (sym same) (first_in (pair_of_condition first) (map pair_of_condition found))
 pair_of_found (first ∷ found) one (inr later) =
@@ -31,7 +32,8 @@ module _ (variants : List (List ℕ)) where
     | inr there ↦ let w = witness_of_pair reported p there in (w.0, inr w.1, w.2)
   ]
 
-  pub pair_of_witness : (reported : List Witnessed) (w : Witnessed) → IsWitnessAmong reported w → Contains (map (pair_counted variants) reported) (pair_counted variants w)
+  pub pair_of_witness : (reported : List Witnessed) (w : Witnessed) → IsWitnessAmong reported w → Contains (map (pair_counted variants) reported)
+      (pair_counted variants w)
   pair_of_witness [] w among = absurd among
   pair_of_witness (first ∷ reported) w (inl same) = rw (sym same) (first_in (pair_counted variants first) (map (pair_counted variants) reported))
   pair_of_witness (first ∷ reported) w (inr later) =

@@ -1,5 +1,6 @@
 -- A finding is added at its place among those that are reported.
-use Rattle.std.proofs.Common.{◌≡◌, ◌≢◌, ◌⊎◌, ℕ, zero, suc, ◌+◌, ◌-◌, ◌<◌, ◌≤◌, List, [], ◌∷◌, ◌++◌, Bool, true, false, inl, inr, drop, get_or, length, take, refl, sym, ap, subst, ◌∙◌, arith}
+use Rattle.std.proofs.Common.{◌≡◌, ◌≢◌, ◌⊎◌, ℕ, zero, suc, ◌+◌, ◌-◌, ◌<◌, ◌≤◌, List, [], ◌∷◌, ◌++◌, Bool, true, false, inl, inr, drop, get_or, length, take}
+use Rattle.std.proofs.Common.{refl, sym, ap, subst, ◌∙◌, arith}
 use Rattle.std.specs.List.{Contains, insert}
 use Rattle.std.proofs.lemmas.Bool.{cases_lt, false≢true}
 use Rattle.std.proofs.lemmas.List.{drop_all, take-append-drop}
@@ -74,7 +75,8 @@ one_more_behind reported p t r some inside is behind none u at =
     let k : ℕ = p - 1 in
     let p_is : suc k ≡ p = omega (arith, some) in
     let rest : drop k reported ≡ t ∷ drop p reported =
-    drop-cons reported k t (omega (arith, some, inside)) ∙ ap (λ (v : ReportedFinding). v ∷ drop (suc k) reported) (sym is) ∙ ap (λ (m : ℕ). t ∷ drop m reported) p_is in
+    drop-cons reported k t (omega (arith, some, inside)) ∙ ap (λ (v : ReportedFinding). v ∷ drop (suc k) reported) (sym is) ∙ ap
+    (λ (m : ℕ). t ∷ drop m reported) p_is in
     elim (cases_in t u (drop p reported) (subst (λ xs. Contains xs u) rest at)) [
       | inl here ↦ subst (λ v. is_below (rank v) r ≡ false) (sym here) none
       | inr later ↦ behind u later
@@ -128,7 +130,8 @@ module _ (reported : List ReportedFinding) (p : ℕ) (n : ReportedFinding) (insi
         let front : take p reported ≡ take k reported ++ last ∷ [] = ap (λ m. take m reported) p_is ∙ take-suc reported k n below in
         let whole : reported ≡ take k reported ++ drop k reported = sym (take-append-drop k reported) in
         let rest : drop k reported ≡ last ∷ drop (suc k) reported = drop-cons reported k n below in
-        let ordered : AreReportedInOrder (take k reported ++ last ∷ drop (suc k) reported) = subst AreReportedInOrder (whole ∙ ap (λ ys. take k reported ++ ys) rest) is in
+        let ordered : AreReportedInOrder (take k reported ++ last ∷ drop (suc k) reported) = subst AreReportedInOrder
+        (whole ∙ ap (λ ys. take k reported ++ ys) rest) is in
         elim (Contains-append_cases (take k reported) (last ∷ []) t (subst (λ xs. Contains xs t) front at)) [
           | inl earlier ↦
               below_through (rank t) (rank last) (rank n)
@@ -141,7 +144,8 @@ module _ (reported : List ReportedFinding) (p : ℕ) (n : ReportedFinding) (insi
   ]
 
   -- the one at the place comes behind, so all from there on do
-  all_behind : (p < length reported → is_below (rank n) (rank (get_or reported p n)) ≡ true) → AreReportedInOrder reported → (t : ReportedFinding) → Contains (drop p reported) t → Below n t
+  all_behind : (p < length reported → is_below (rank n) (rank (get_or reported p n)) ≡ true) → AreReportedInOrder reported → (t : ReportedFinding)
+      → Contains (drop p reported) t → Below n t
   all_behind next is t at = elim (cases_lt p (length reported)) [
     | inr over ↦ absurd (none_in t (subst (λ xs. Contains xs t) (drop_all p reported over) at))
     | inl less ↦
@@ -159,12 +163,14 @@ module _ (reported : List ReportedFinding) (p : ℕ) (n : ReportedFinding) (insi
   added next =
       let whole : take p reported ++ drop p reported ≡ reported = take-append-drop p reported in
       subst (λ old. IsReportedWith old n (take p reported ++ n ∷ drop p reported)) whole
-      (reported_with (take p reported) (drop p reported) n (λ is. all_before (subst AreReportedInOrder whole is)) (λ is. all_behind next (subst AreReportedInOrder whole is)))
+      (reported_with (take p reported) (drop p reported) n (λ is. all_before (subst AreReportedInOrder whole is))
+      (λ is. all_behind next (subst AreReportedInOrder whole is)))
 
   pub known : p < length reported → is_below (rank n) (rank (get_or reported p n)) ≡ false → IsReportedWith reported n reported
   known less not_next =
       let e : ReportedFinding = get_or reported p n in
       let rest : drop p reported ≡ e ∷ drop (suc p) reported = drop-cons reported p n less in
       let here : Contains (drop p reported) e = subst (λ xs. Contains xs e) (sym rest) (first_in e (drop (suc p) reported)) in
-      let in_reported : Contains reported e = subst (λ xs. Contains xs e) (take-append-drop p reported) (Contains-append_right (take p reported) (drop p reported) e here) in
+      let in_reported : Contains reported e = subst (λ xs. Contains xs e) (take-append-drop p reported)
+      (Contains-append_right (take p reported) (drop p reported) e here) in
       reported_already reported n e in_reported (one_rank (rank e) (rank n) (behind e here) not_next)

@@ -30,7 +30,8 @@ use Rattle.j39_line_check.specs.inside.AddedFindings.{AreAdded, Pair, pair_count
 
 module _ (line : ProductLine) (conditioned : List FoundByCondition) (exact : ReportWhatVariantsHave line conditioned) (reported : List ReportedFinding) where
   -- by its finding and its variant
-  witness_by : (full : FullAlternatives) (t : ReportedFinding) (p : Pair) → pair_reported t ≡ p → IsWitnessFor line full p.0 p.1 → IsWitnessFor line full t.finding t.variant.items
+  witness_by : (full : FullAlternatives) (t : ReportedFinding) (p : Pair) → pair_reported t ≡ p → IsWitnessFor line full p.0 p.1
+      → IsWitnessFor line full t.finding t.variant.items
   witness_by full t p is witness = subst (λ (q : Pair). IsWitnessFor line full q.0 q.1) (sym is) witness
 
   module _ (x : FullVariants) where
@@ -40,7 +41,8 @@ module _ (line : ProductLine) (conditioned : List FoundByCondition) (exact : Rep
     abbrev all : List Pair
     all = map pair_of_condition conditioned ++ map (pair_counted vs) x.reported.items
 
-    reported_kept : FullVariantsHaveWhatIsFound line → OldNeedsAreFoundOfFull line → AreFullVariants line Kept x → AreAdded all reported → AreReported line None reported
+    reported_kept : FullVariantsHaveWhatIsFound line → OldNeedsAreFoundOfFull line → AreFullVariants line Kept x → AreAdded all reported
+        → AreReported line None reported
     reported_kept covers ages full are = record {
       full = x.full;
       are_full = full.are_full;
@@ -59,12 +61,14 @@ module _ (line : ProductLine) (conditioned : List FoundByCondition) (exact : Rep
         | inl goes ↦
             let one = condition_reported line conditioned exact v f has goes in
             let t = are.complete (pair_of_condition one.0)
-            (Contains-append_left (map pair_of_condition conditioned) (map (pair_counted vs) x.reported.items) (pair_of_condition one.0) (pair_of_found conditioned one.0 one.1)) in
+            (Contains-append_left (map pair_of_condition conditioned) (map (pair_counted vs) x.reported.items) (pair_of_condition one.0)
+            (pair_of_found conditioned one.0 one.1)) in
             (t.0, t.1, t.2 ∙ ap rank_of one.2)
         | inr counts ↦
             let w = counted_reported line covers ages x full v f has counts sure in
             let t = are.complete (pair_counted vs w.0)
-            (Contains-append_right (map pair_of_condition conditioned) (map (pair_counted vs) x.reported.items) (pair_counted vs w.0) (pair_of_witness vs x.reported.items w.0 w.1)) in
+            (Contains-append_right (map pair_of_condition conditioned) (map (pair_counted vs) x.reported.items) (pair_counted vs w.0)
+            (pair_of_witness vs x.reported.items w.0 w.1)) in
             (t.0, t.1, t.2 ∙ w.2)
       ];
       in_order = are.in_order;

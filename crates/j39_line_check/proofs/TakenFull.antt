@@ -1,5 +1,6 @@
 -- Full variants take full alternatives alone, and are looked at.
-use Rattle.std.proofs.Common.{◌≡◌, ℕ, zero, suc, ◌+◌, ◌==◌, List, [], ◌∷◌, true, false, ◌&&◌, Option, Vec, Some, None, inl, inr, if◌then◌else◌, is_some, map, option_map, refl, sym, ap, subst, ◌∙◌, arith}
+use Rattle.std.proofs.Common.{◌≡◌, ℕ, zero, suc, ◌+◌, ◌==◌, List, [], ◌∷◌, true, false, ◌&&◌, Option, Vec, Some, None, inl, inr, if◌then◌else◌, is_some, map}
+use Rattle.std.proofs.Common.{option_map, refl, sym, ap, subst, ◌∙◌, arith}
 use Rattle.std.specs.List.{Contains, list_any, slice_get}
 use Rattle.std.specs.Option.{option_map_or}
 use Rattle.std.proofs.lemmas.Bool.{and_parts, cases_Bool, eq-eqb, false≢true}
@@ -28,7 +29,8 @@ has_it [] a at = absurd (none_in a at)
 has_it (b ∷ set) a at = elim (cases_in b a set at) [
   | inl here ↦
       let own : is_one_alternative b a ≡ true =
-      rw here (let c : (b.choice == b.choice) ≡ true = eq-eqb b.choice b.choice refl in let p : (b.place == b.place) ≡ true = eq-eqb b.place b.place refl in rw (c, p) refl) in
+      rw here (let c : (b.choice == b.choice) ≡ true = eq-eqb b.choice b.choice refl in let p : (b.place == b.place) ≡ true = eq-eqb b.place b.place refl
+      in rw (c, p) refl) in
       rw own refl
   | inr later ↦ elim (cases_Bool (is_one_alternative b a)) [
     | inl same ↦ rw same refl
@@ -83,7 +85,8 @@ module _ (line : ProductLine) (full : FullAlternatives) (are_full : AreFullAlter
   takes_by set w None is timed takes = absurd (cc is)
   takes_by set w (Some s) is timed takes = let one : s.items ≡ set = same_Some s.items set is in rw (timed, one) takes
 
-  pub need_taken : (d : ℕ) → AsksForAge line d → is_some line.plan.timing ≡ true → (w : List ℕ) → IsFullFor line (Some d) w → takes_full_of_need line full w d ≡ true
+  pub need_taken : (d : ℕ) → AsksForAge line d → is_some line.plan.timing ≡ true → (w : List ℕ) → IsFullFor line (Some d) w
+      → takes_full_of_need line full w d ≡ true
   need_taken d (need, at, asks) timed w is =
       let set : List Alternative = full_alternatives line (alternatives_of line) (Some d) in
       takes_by set w (slice_get full.of_needs.items d) (set_of_need d need at asks) timed

@@ -15,8 +15,8 @@ pub struct ReportedFinding {
 /// At which variants is looked for what counts what is there.
 #[derive(Drop)]
 pub enum LookedAt {
-    /// At the full variants of the line, and at those that are full for a need; or at those of the line without what isn't
-    /// built, where the line has too many, and nothing is found of these.
+    /// At the full variants of the line, and at those that are full for a need; or at those of the line without what
+    /// isn't built, where the line has too many, and nothing is found of these.
     Full(Vec<Vec<usize>>),
     /// So many are too many: what counts what is there isn't reported.
     TooMany(u64),

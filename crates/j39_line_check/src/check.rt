@@ -98,8 +98,8 @@ fn reported_of_full(
     Ok(reported)
 }
 
-// What is found of a line of which some variant is possible, with the times of those at which is looked, where these are
-// asked for.
+// What is found of a line of which some variant is possible, with the times of those at which is looked, where these
+// are asked for.
 fn found_of(
     alloc: Global,
     line: &ProductLine,
@@ -155,8 +155,8 @@ pub fn check_line(alloc: Global, line: &ProductLine) -> Result<LineAnswer, Alloc
     Ok(answer)
 }
 
-/// The same, with the times of the variants at which is looked, where the bus of the line is known: each of these variants is
-/// answered once for both.
+/// The same, with the times of the variants at which is looked, where the bus of the line is known: each of these
+/// variants is answered once for both.
 pub fn check_line_with_times(
     alloc: Global,
     line: &ProductLine,

@@ -17,8 +17,10 @@ fn comes_before(one: &ReportedFinding, rank: Rank) -> bool
 // The place behind the last of those that are reported that comes before one of a rank.
 fn place_of(reported: &[ReportedFinding], rank: Rank) -> usize
     ensures inside { result ≤ length reported.now }
-    ensures before { (d : ReportedFindings) → 0 < result → is_below (rank_of (slice_index_or reported.now (result - 1) d).finding) rank ≡ true }
-    ensures behind { (t : ReportedFindings) → Contains (drop result reported.now) t → is_below (rank_of t.finding) rank ≡ false }
+    ensures before { (d : ReportedFindings) → 0 < result
+        → is_below (rank_of (slice_index_or reported.now (result - 1) d).finding) rank ≡ true }
+    ensures behind { (t : ReportedFindings) → Contains (drop result reported.now) t
+        → is_below (rank_of t.finding) rank ≡ false }
 {
     let mut place = reported.len();
     while 0 < place && !comes_before(&reported[place - 1], rank) {
@@ -29,9 +31,11 @@ fn place_of(reported: &[ReportedFinding], rank: Rank) -> usize
 
 // Whether none is reported at a place, or one behind one of a rank.
 fn is_free(reported: &[ReportedFinding], place: usize, rank: Rank) -> bool
-    ensures free { (d : ReportedFindings) → result ≡ true → place < length reported.now → is_below rank (rank_of (slice_index_or reported.now place d).finding) ≡ true }
+    ensures free { (d : ReportedFindings) → result ≡ true → place < length reported.now
+        → is_below rank (rank_of (slice_index_or reported.now place d).finding) ≡ true }
     ensures inside { result ≡ false → place < length reported.now }
-    ensures taken { (d : ReportedFindings) → result ≡ false → is_below rank (rank_of (slice_index_or reported.now place d).finding) ≡ false }
+    ensures taken { (d : ReportedFindings) → result ≡ false
+        → is_below rank (rank_of (slice_index_or reported.now place d).finding) ≡ false }
 {
     match reported.get(place) {
         Some(other) => is_below(rank, other.finding.rank()),

@@ -76,7 +76,8 @@ module _ (line : ProductLine) (v : List ℕ) {X Y : Type 0} (R : X → Y → Typ
   met_of k (i, placed, its) =
       let came = are.from i its.value its.value_is in
       subst (λ n. meets_any line v (option_map_or (conditions n) (slice_get xs n) []) ≡ true) (sym came.place_is ∙ placed)
-      (ap (λ o. meets_any line v (option_map_or (conditions came.k) o [])) came.value_is ∙ same came.k came.value its.value came.comes came.is_there ∙ its.meets)
+      (ap (λ o. meets_any line v
+      (option_map_or (conditions came.k) o [])) came.value_is ∙ same came.k came.value its.value came.comes came.is_there ∙ its.meets)
 
   of_met : ((k : ℕ) (x : X) → meets_any line v (conditions k x) ≡ true → test k ≡ true) → (k : ℕ)
       → meets_any line v (option_map_or (conditions k) (slice_get xs k) []) ≡ true → PassesAt passes ys at k
@@ -163,7 +164,8 @@ module _ (line : ProductLine) (v : List ℕ) (findings : List LineFinding) (of :
   unsent_at = where_met line v _ _ _ _ _ (are_groups line v plan of.is_plan there of.is_there) (unsent_condition line)
       (is_private_unsent plan.groups.items plan.flows.items) (unsent_here line v plan of.is_plan there of.is_there) findings PrivateUnsent
       (λ k. reported_only (PrivateUnsent k) (λ d is. cc))
-      (λ i its. report (PrivateUnsent i) (holding _ _ (Decides-is_private_unsent plan.groups.items plan.flows.items) plan.groups.items i its)) (unsent_there line v)
+      (λ i its. report (PrivateUnsent i) (holding _ _ (Decides-is_private_unsent plan.groups.items plan.flows.items) plan.groups.items i its))
+      (unsent_there line v)
 
   unanswered_at : (r : ℕ) → IsFoundWhereMet line v findings (OfPlan (RequestUnanswered r))
   unanswered_at = where_met line v _ _ _ _ _ (are_requests line v plan of.is_plan there of.is_there)
@@ -183,7 +185,8 @@ module _ (line : ProductLine) (v : List ℕ) (findings : List LineFinding) (of :
   astray_at = where_met line v _ _ _ _ _ (are_requests line v plan of.is_plan there of.is_there) (astray_conditions line)
       (is_answered_astray plan.groups.items plan.flows.items) (astray_here line v plan of.is_plan there of.is_there) findings AnswerAstray
       (λ k. reported_only (AnswerAstray k) (λ d is. cc))
-      (λ i its. report (AnswerAstray i) (holding _ _ (Decides-is_answered_astray plan.groups.items plan.flows.items) plan.requests.items i its)) (astray_there line v)
+      (λ i its. report (AnswerAstray i) (holding _ _ (Decides-is_answered_astray plan.groups.items plan.flows.items) plan.requests.items i its))
+      (astray_there line v)
 
   -- ---- needs
 

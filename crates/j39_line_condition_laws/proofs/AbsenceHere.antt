@@ -3,7 +3,8 @@ use Rattle.std.proofs.Common.{◌≡◌, ℕ, ◌==◌, Bool, true, false, not, 
 use Rattle.std.specs.List.{list_any, slice_get}
 use Rattle.std.specs.Option.{option_map_or}
 use Rattle.std.proofs.lemmas.Bool.{and_from, and_parts, eqb-true, false≢true, or_cases, or_right}
-use Rattle.j39_findings.specs.Found.{goes_unanswered, goes_unheard, is_all_astray, is_answered_astray, is_one_astray, is_private_unsent, is_unmet, may_name_receiver}
+use Rattle.j39_findings.specs.Found.{goes_unanswered, goes_unheard, is_all_astray, is_answered_astray, is_one_astray, is_private_unsent, is_unmet}
+use Rattle.j39_findings.specs.Found.{may_name_receiver}
 use Rattle.j39_findings.specs.Found.{sends, serves_all, serves_one}
 use Rattle.j39_network.specs.Serving.{is_asked_for, is_from, is_reached, is_to_one, meets, serves, serves_some}
 use Rattle.j39_network.specs.declared.plan.Plan.{Plan}
@@ -13,7 +14,8 @@ use Rattle.j39_network.specs.declared.plan.need_plan.NeedPlan.{NeedPlan}
 use Rattle.j39_network.specs.declared.plan.request_plan.RequestPlan.{RequestPlan}
 use Rattle.j39_variants.proofs.Places.{flow_parts, request_parts}
 use Rattle.j39_variants.specs.declared.line.ProductLine.{ProductLine}
-use Rattle.j39_variants.specs.VariantPlans.{flags, group_places, IsCopyOfGroup, IsVariantPlan, moved_flow, moved_need, moved_receivers, moved_request, picked, place_at, unit_places}
+use Rattle.j39_variants.specs.VariantPlans.{flags, group_places, IsCopyOfGroup, IsVariantPlan, moved_flow, moved_need, moved_receivers, moved_request, picked}
+use Rattle.j39_variants.specs.VariantPlans.{place_at, unit_places}
 use Rattle.j39_line_findings.specs.Conditions.{astray_conditions, meets_any, meets_condition, unmet_condition, unsent_condition, unserved_condition}
 use Rattle.j39_line_findings.specs.MissedNeeds.{is_group_there, is_in_at, is_need_asked_for, is_sender_there, is_source_there, is_unit_there}
 use Rattle.j39_line_findings.specs.There.{is_flow_there, is_receiver_there, is_request_there, IsWhatIsThere}
@@ -21,7 +23,8 @@ use Rattle.j39_line_findings.specs.declared.there.WhatIsThere.{WhatIsThere}
 use Rattle.j39_line_findings.proofs.Tests.{any_at, at_any}
 use Rattle.j39_line_condition_laws.proofs.PickedPlaces.{one_test}
 use Rattle.j39_line_condition_laws.proofs.InVariant.{are_flows, are_requests, group_named}
-use Rattle.j39_line_condition_laws.proofs.Lacking.{all_astray_met, any_unless, any_where, at_flow, at_source, flow_at, is_all_met, is_one_met, is_some_source, is_some_there}
+use Rattle.j39_line_condition_laws.proofs.Lacking.{all_astray_met, any_unless, any_where, at_flow, at_source, flow_at, is_all_met, is_one_met, is_some_source}
+use Rattle.j39_line_condition_laws.proofs.Lacking.{is_some_there}
 use Rattle.j39_line_condition_laws.proofs.Lacking.{IsSource, source_at, unmet_met, unsent_met, unserved_met}
 use Rattle.j39_line_condition_laws.proofs.TestsAgree.{both, brings_same, may_name_same, on_request_same, sends_same, serves_same, to_one_same}
 
@@ -67,7 +70,8 @@ module _ (line : ProductLine) (v : List ℕ) where
   sender_there None sender from there = refl
   sender_there (Some u) sender from there = ap (is_unit_there line v) (sym (eqb-true sender u from)) ∙ there
 
-  pub source_there : (d : ℕ) (need : NeedPlan) → slice_get line.plan.needs.items d ≡ Some need → is_some_source line v need ≡ true → is_source_there line v d ≡ true
+  pub source_there : (d : ℕ) (need : NeedPlan) → slice_get line.plan.needs.items d ≡ Some need → is_some_source line v need ≡ true
+      → is_source_there line v d ≡ true
   source_there d need at_d some =
       let its = source_at line v need some in
       let flow = its.value in
@@ -114,7 +118,8 @@ module _ (line : ProductLine) (v : List ℕ) (plan : Plan) (is : IsVariantPlan l
   abbrev moved_here : RequestPlan → Option RequestPlan
   moved_here = moved_request (unit_places line v) (group_places line v)
 
-  some_same : (test here : FlowPlan → Bool) → ((f y : FlowPlan) → moved f ≡ Some y → here y ≡ test f) → is_some_there line v test ≡ list_any here plan.flows.items
+  some_same : (test here : FlowPlan → Bool) → ((f y : FlowPlan) → moved f ≡ Some y → here y ≡ test f)
+      → is_some_there line v test ≡ list_any here plan.flows.items
   some_same test here same = one_test _ _
       (λ some.
       let its = flow_at line v test some in
@@ -132,21 +137,24 @@ module _ (line : ProductLine) (v : List ℕ) (plan : Plan) (is : IsVariantPlan l
       ∙ both _ _ _ _ (sym copy.private) (ap not (some_same (sends line.plan.groups.items g) (sends plan.groups.items h)
       (λ f y sent. sends_same line.plan.groups.items (picked groups line.plan.groups.items) plan.groups.items is.has_groups g h f y copy
       (group_named line v plan is there are f.group y.group
-      (flow_parts f (place_at (group_places line v) f.group) (place_at (unit_places line v) f.sender) (moved_receivers (unit_places line v) f.to) y sent).group))))
+      (flow_parts f (place_at (group_places line v) f.group) (place_at (unit_places line v) f.sender)
+      (moved_receivers (unit_places line v) f.to) y sent).group))))
 
   -- ---- requests
 
   module _ (k : ℕ) (r q : RequestPlan) (asked : moved_here r ≡ Some q) (here : is_request_there line v k ≡ true) where
     abbrev to_same : is_to_one q.to ≡ is_to_one r.to
     to_same = to_one_same units groups r.to q.to
-        (request_parts r (place_at (group_places line v) r.group) (place_at (unit_places line v) r.sender) (moved_receivers (unit_places line v) r.to) q asked).receivers
+        (request_parts r (place_at (group_places line v) r.group) (place_at (unit_places line v) r.sender)
+        (moved_receivers (unit_places line v) r.to) q asked).receivers
 
     answers : (f y : FlowPlan) → moved f ≡ Some y → serves q y ≡ serves r f
     answers f y sent = serves_same units groups r q f y asked sent
 
     goes_to_one : (f y : FlowPlan) → moved f ≡ Some y → is_to_one y.to ≡ is_to_one f.to
     goes_to_one f y sent = to_one_same units groups f.to y.to
-        (flow_parts f (place_at (group_places line v) f.group) (place_at (unit_places line v) f.sender) (moved_receivers (unit_places line v) f.to) y sent).receivers
+        (flow_parts f (place_at (group_places line v) f.group) (place_at (unit_places line v) f.sender)
+        (moved_receivers (unit_places line v) f.to) y sent).receivers
 
     unserved_here : meets_any line v (unserved_condition line k r) ≡ not (list_any (serves q) plan.flows.items)
     unserved_here = unserved_met line v k r ∙ ap (λ b. b && not (is_some_there line v (serves r))) here ∙ ap not (some_same (serves r) (serves q) answers)
@@ -166,7 +174,8 @@ module _ (line : ProductLine) (v : List ℕ) (plan : Plan) (is : IsVariantPlan l
     may_name : may_name_receiver plan.groups.items q ≡ may_name_receiver line.plan.groups.items r
     may_name = may_name_same line.plan.groups.items (picked groups line.plan.groups.items) plan.groups.items is.has_groups r q
         (group_named line v plan is there are r.group q.group
-        (request_parts r (place_at (group_places line v) r.group) (place_at (unit_places line v) r.sender) (moved_receivers (unit_places line v) r.to) q asked).group)
+        (request_parts r (place_at (group_places line v) r.group) (place_at (unit_places line v) r.sender)
+        (moved_receivers (unit_places line v) r.to) q asked).group)
 
     one_here : is_one_met line v k r ≡ is_one_astray plan.groups.items plan.flows.items q
     one_here = both _ _ _ _ (sym to_same) (both _ _ _ _ (sym may_name)

@@ -46,21 +46,27 @@ module _ (line : ProductLine) where
     -- what names its group, its sender and its receiver
     known_sent : {X : Type 0} (group sender : X → ℕ) (to : X → To) (xs : List X) (lists : List (Vec Alternative Global)) → length lists ≡ length xs
         → NameChoices (length line.choices.items) lists → All (λ x. group x < length line.plan.groups.items) xs
-        → All (λ x. sender x < length line.plan.units.items) xs → All (λ x. (u : ℕ) → to x ≡ One u → u < length line.plan.units.items) xs → (i : ℕ) → i < length xs
-        → option_map_or (λ x. is_list_known_at line lists i && (is_group_known line (group x) && (is_unit_known line (sender x) && is_receiver_known line (to x))))
+        → All (λ x. sender x < length line.plan.units.items) xs → All (λ x. (u : ℕ) → to x ≡ One u → u < length line.plan.units.items) xs → (i : ℕ)
+        → i < length xs
+        → option_map_or (λ x. is_list_known_at line lists i && (is_group_known line (group x)
+        && (is_unit_known line (sender x) && is_receiver_known line (to x))))
         (slice_get xs i) false ≡ true
     known_sent {X} group sender to xs lists same listed groups senders receivers i below =
         let (x, at_i) = value_at xs i below in
-        ap (λ o. option_map_or (λ (y : X). is_list_known_at line lists i && (is_group_known line (group y) && (is_unit_known line (sender y) && is_receiver_known line (to y)))) o false) at_i
+        ap (λ o. option_map_or (λ (y : X). is_list_known_at line lists i
+        && (is_group_known line (group y) && (is_unit_known line (sender y) && is_receiver_known line (to y)))) o false) at_i
         ∙ and_from (is_list_known_at line lists i) _ (known_at lists listed i (omega (arith, below, same)))
-        (and_from (is_group_known line (group x)) _ (known_group (group x) (at_all_places (λ (y : X). group y < length line.plan.groups.items) xs groups i x at_i))
-        (and_from (is_unit_known line (sender x)) (is_receiver_known line (to x)) (known_unit (sender x) (at_all_places (λ (y : X). sender y < length line.plan.units.items) xs senders i x at_i))
+        (and_from (is_group_known line (group x)) _ (known_group (group x)
+        (at_all_places (λ (y : X). group y < length line.plan.groups.items) xs groups i x at_i))
+        (and_from (is_unit_known line (sender x)) (is_receiver_known line (to x))
+        (known_unit (sender x) (at_all_places (λ (y : X). sender y < length line.plan.units.items) xs senders i x at_i))
         (known_receiver (to x) (at_all_places (λ (y : X). (u : ℕ) → to y ≡ One u → u < length line.plan.units.items) xs receivers i x at_i))))
 
     known_part : (part : LinePart) → HasPart line part → is_part_known line part ≡ true
     known_part (AUnit u) below = known_unit u below
     known_part (Group g) below = known_group g below
-    known_part (Flow f) below = known_sent (λ (x : FlowPlan). x.group) (λ (x : FlowPlan). x.sender) (λ (x : FlowPlan). x.to) line.plan.flows.items line.lists.flows.items line.flow_lists
+    known_part (Flow f) below = known_sent (λ (x : FlowPlan). x.group) (λ (x : FlowPlan). x.sender)
+        (λ (x : FlowPlan). x.to) line.plan.flows.items line.lists.flows.items line.flow_lists
         names.flows line.plan.flow_groups line.plan.flow_senders line.plan.flow_receivers f below
     known_part (Need d) below =
         let (need, at_d) = value_at line.plan.needs.items d below in
@@ -68,7 +74,8 @@ module _ (line : ProductLine) where
         ap (λ o. option_map_or (λ (x : NeedPlan). is_list_known_at line line.lists.needs.items d && is_unit_known line x.unit) o false) at_d
         ∙ and_from _ _ (known_at line.lists.needs.items names.needs d (omega (arith, below, same)))
         (known_unit need.unit (at_all_places (λ (x : NeedPlan). x.unit < length line.plan.units.items) line.plan.needs.items line.plan.need_units d need at_d))
-    known_part (Request r) below = known_sent (λ (x : RequestPlan). x.group) (λ (x : RequestPlan). x.sender) (λ (x : RequestPlan). x.to) line.plan.requests.items line.lists.requests.items line.request_lists
+    known_part (Request r) below = known_sent (λ (x : RequestPlan). x.group) (λ (x : RequestPlan). x.sender)
+        (λ (x : RequestPlan). x.to) line.plan.requests.items line.lists.requests.items line.request_lists
         names.requests line.plan.request_groups line.plan.request_senders line.plan.request_receivers r below
 
 -- ---- the boxes

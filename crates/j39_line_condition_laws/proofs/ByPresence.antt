@@ -41,7 +41,8 @@ module _ (line : ProductLine) (v : List ℕ) (findings : List LineFinding) (has 
       let none : not (is_some there.value.pace) ≡ true = ap (λ o. not (is_some o)) (there.meets.pace ∙ its.unpaced) in
       let known : is_some line.plan.timing ≡ true = ap is_some (sym is.timing) ∙ timed in
       subst IsMet (sym (flow_in_file line v has.plan has.is_plan has.there has.is_there i its.flow its.flow_is))
-      (some_of (meets_condition line v) (no_period_conditions line ((at line v).flow i)) (slice_get line.plan.flows.items ((at line v).flow i)) there.value there.value_is
+      (some_of (meets_condition line v) (no_period_conditions line ((at line v).flow i))
+      (slice_get line.plan.flows.items ((at line v).flow i)) there.value there.value_is
       (if_of (meets_condition line v) (is_some line.plan.timing && not (is_some there.value.pace)) (where_together (Flow ((at line v).flow i) ∷ []))
       (and_from (is_some line.plan.timing) (not (is_some there.value.pace)) known none)
       (one_met line v (Flow ((at line v).flow i)) (flow_there line v has.plan has.is_plan i its.flow its.flow_is))))
@@ -66,7 +67,8 @@ module _ (line : ProductLine) (v : List ℕ) (findings : List LineFinding) (has 
   reported_load : (f : ℕ) → IsMet f → Is (NoPeriod f)
   reported_load f met =
       let of = of_some (meets_condition line v) (no_period_conditions line f) (slice_get line.plan.flows.items f) met in
-      let (test, together) = of_if (meets_condition line v) (is_some line.plan.timing && not (is_some of.value.pace)) (where_together (Flow f ∷ [])) of.passes in
+      let (test, together) = of_if (meets_condition line v) (is_some line.plan.timing && not (is_some of.value.pace))
+      (where_together (Flow f ∷ [])) of.passes in
       let (known, none) = and_parts (is_some line.plan.timing) (not (is_some of.value.pace)) test in
       let its = flow_place line v has.plan has.is_plan f (met_one line v (Flow f) together) in
       let there = is.flows.each its.i its.value its.value_is in

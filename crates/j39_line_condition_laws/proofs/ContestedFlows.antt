@@ -20,7 +20,8 @@ use Rattle.j39_variants.specs.declared.line.ProductLine.{ProductLine}
 use Rattle.j39_part_laws.specs.PlanParts.{IsFlowThere, IsPartAt, IsSame, Places, to_in}
 use Rattle.j39_part_laws.proofs.Places.{same_there, value_at}
 use Rattle.j39_load.specs.LineLists.{lines_of_each}
-use Rattle.j39_line_findings.specs.Conditions.{Condition, conditions_of_plan, contested_by, contested_conditions, is_beside_end, meets_any, meets_condition, where_together}
+use Rattle.j39_line_findings.specs.Conditions.{Condition, conditions_of_plan, contested_by, contested_conditions, is_beside_end, meets_any, meets_condition}
+use Rattle.j39_line_findings.specs.Conditions.{where_together}
 use Rattle.j39_line_findings.specs.MissedNeeds.{is_unit_there}
 use Rattle.j39_line_findings.specs.There.{is_flow_there}
 use Rattle.j39_line_findings.specs.FlowEnds.{are_at_one_address, are_ends_in_pool, has_end_in_pool, has_pool_address, is_end, is_end_in_pool}
@@ -36,7 +37,8 @@ abbrev contested_units : ProductLine → ℕ → FlowPlan → List Condition
 contested_units line f flow = lines_of_each (λ u _. contested_by line f flow u) 0 line.plan.units.items
 
 -- an end is planned at an address to which nothing moves
-ends_outside : (line : ProductLine) (f : ℕ) (flow : FlowPlan) → slice_get line.plan.flows.items f ≡ Some flow → has_end_in_pool line f ≡ false → (e : ℕ) (unit : UnitPlan)
+ends_outside : (line : ProductLine) (f : ℕ) (flow : FlowPlan) → slice_get line.plan.flows.items f ≡ Some flow → has_end_in_pool line f ≡ false
+    → (e : ℕ) (unit : UnitPlan)
     → slice_get line.plan.units.items e ≡ Some unit → is_end flow e ≡ true → in_pool unit.address ≡ false
 unfolding has_end_in_pool are_ends_in_pool
 ends_outside line f flow at_f none e unit at_e ends =
@@ -66,11 +68,13 @@ module _ (line : ProductLine) (v : List ℕ) (plan : Plan) (is_plan : IsVariantP
   at_one_address : (i j : ℕ) (x y : UnitPlan) → slice_get plan.units.items i ≡ Some x → slice_get plan.units.items j ≡ Some y
       → are_at_one_address line (p.unit i) (p.unit j) ≡ (x.address == y.address)
   at_one_address i j x y at_x at_y =
-      ap (λ o. option_map_or (λ (unit : UnitPlan). option_map_or (λ (other : UnitPlan). unit.address == other.address) (slice_get line.plan.units.items (p.unit j)) false) o false)
+      ap (λ o. option_map_or (λ (unit : UnitPlan). option_map_or (λ (other : UnitPlan). unit.address == other.address)
+      (slice_get line.plan.units.items (p.unit j)) false) o false)
       (unit_at_place i x at_x)
       ∙ ap (λ o. option_map_or (λ (other : UnitPlan). x.address == other.address) o false) (unit_at_place j y at_y)
 
-  module _ (i : ℕ) (flow there : FlowPlan) (at_flow : slice_get plan.flows.items i ≡ Some flow) (at_there : slice_get line.plan.flows.items (p.flow i) ≡ Some there)
+  module _ (i : ℕ) (flow there : FlowPlan) (at_flow : slice_get plan.flows.items i ≡ Some flow)
+      (at_there : slice_get line.plan.flows.items (p.flow i) ≡ Some there)
       (stands : IsFlowThere p flow there) where
     sender_below : flow.sender < length plan.units.items
     sender_below = all_at (λ (h : FlowPlan). h.sender < length plan.units.items) plan.flows.items plan.flow_senders i flow at_flow
@@ -111,7 +115,8 @@ module _ (line : ProductLine) (v : List ℕ) (plan : Plan) (is_plan : IsVariantP
           (and_from line.plan.live (not (has_end_in_pool line (p.flow i))) live (not_from_false (has_end_in_pool line (p.flow i)) outside))
           (at_passed (meets_condition line v) (λ w _. contested_by line (p.flow i) there w) line.plan.units.items (p.unit beside.place) beside.other
           (unit_at_place beside.place beside.other beside.other_is)
-          (if_of (meets_condition line v) (is_beside_end line there (p.unit beside.place)) (where_together (Flow (p.flow i) ∷ AUnit (p.unit beside.place) ∷ [])) is_beside
+          (if_of (meets_condition line v) (is_beside_end line there (p.unit beside.place))
+          (where_together (Flow (p.flow i) ∷ AUnit (p.unit beside.place) ∷ [])) is_beside
           (both_met line v (Flow (p.flow i)) (AUnit (p.unit beside.place)) (flow_there line v plan is_plan i flow at_flow)
           (unit_there line v plan is_plan beside.place beside.other beside.other_is)))))
 
@@ -161,13 +166,16 @@ module _ (line : ProductLine) (v : List ℕ) (plan : Plan) (is_plan : IsVariantP
         let (which, some) = of_if (meets_condition line v) (line.plan.live && not (has_end_in_pool line (p.flow i)))
         (contested_units line (p.flow i) its.value) its.passes in
         let by = passed_at (meets_condition line v) (λ w _. contested_by line (p.flow i) its.value w) line.plan.units.items some in
-        let (beside, together) = of_if (meets_condition line v) (is_beside_end line its.value by.place) (where_together (Flow (p.flow i) ∷ AUnit by.place ∷ [])) by.passes in
+        let (beside, together) = of_if (meets_condition line v) (is_beside_end line its.value by.place)
+        (where_together (Flow (p.flow i) ∷ AUnit by.place ∷ [])) by.passes in
         let (flow_is, unit_is) = met_both line v (Flow (p.flow i)) (AUnit by.place) together in
-        let end = any_at (λ w. is_end its.value w && (not (by.place == w) && are_at_one_address line by.place w)) (range_with_len 0 (length line.plan.units.items)) beside in
+        let end = any_at (λ w. is_end its.value w && (not (by.place == w) && are_at_one_address line by.place w))
+        (range_with_len 0 (length line.plan.units.items)) beside in
         let (ends, rest) = and_parts (is_end its.value end.value) (not (by.place == end.value) && are_at_one_address line by.place end.value) end.passes in
         let (differs, address) = and_parts (not (by.place == end.value)) (are_at_one_address line by.place end.value) rest in (
           is_plan.has_live ∙ (and_parts line.plan.live (not (has_end_in_pool line (p.flow i))) which).0,
-          contested_with end.value by.place (subst (λ (x : FlowPlan). is_end x end.value ≡ true) same ends) (not-true (by.place == end.value) differs) address unit_is,
+          contested_with end.value by.place (subst (λ (x : FlowPlan). is_end x end.value ≡ true) same ends)
+              (not-true (by.place == end.value) differs) address unit_is,
         )
 
   -- ---- at the places of flows
@@ -193,7 +201,8 @@ module _ (line : ProductLine) (v : List ℕ) (plan : Plan) (is_plan : IsVariantP
       record { value = flow; value_is = at_flow; meets = contested_here i flow its.value at_flow its.value_is its.meets met }
 
 -- and the flow is there
-pub contested_flow : (line : ProductLine) (v : List ℕ) (f : ℕ) → meets_any line v (conditions_of_plan line (FlowContested f)) ≡ true → is_flow_there line v f ≡ true
+pub contested_flow : (line : ProductLine) (v : List ℕ) (f : ℕ) → meets_any line v (conditions_of_plan line (FlowContested f)) ≡ true
+    → is_flow_there line v f ≡ true
 contested_flow line v f met =
     let its = of_some (meets_condition line v) (contested_conditions line f) (slice_get line.plan.flows.items f) met in
     let (which, some) = of_if (meets_condition line v) (line.plan.live && not (has_end_in_pool line f)) (contested_units line f its.value) its.passes in

@@ -36,7 +36,8 @@ use Rattle.j39_line_part_laws.proofs.FoundOfCovering.{in_plan, of_plan_reported}
 use Rattle.j39_line_condition_laws.proofs.ContestedFlows.{contested_flow, contested_there, there_contested}
 use Rattle.j39_line_condition_laws.proofs.FilePlaces.{HasPlace}
 use Rattle.j39_line_condition_laws.proofs.InPart.{asked_found, group_back, repeated_found, to_one_found, to_self_found, unit_back, units_back}
-use Rattle.j39_line_condition_laws.proofs.InWhole.{at, flow_in_file, flow_place, flow_there, group_in_file, group_place, group_there, is_part, request_in_file, request_place, request_there, unit_in_file}
+use Rattle.j39_line_condition_laws.proofs.InWhole.{at, flow_in_file, flow_place, flow_there, group_in_file, group_place, group_there, is_part, request_in_file}
+use Rattle.j39_line_condition_laws.proofs.InWhole.{request_place, request_there, unit_in_file}
 use Rattle.j39_line_condition_laws.proofs.InWhole.{unit_place, unit_there}
 use Rattle.j39_line_condition_laws.proofs.SameNumbers.{groups_of, same_pgn_there, there_same_pgn}
 use Rattle.j39_line_condition_laws.proofs.Tests.{both_met, met_both, met_one, one_met}
@@ -105,7 +106,8 @@ module _ (line : ProductLine) (v : List ℕ) (findings : List LineFinding) (has 
   flow_stated make i x at_x holds goes = subst (λ a. IsReported line v (make a)) (sym (flow_is i x at_x))
       (holds, goes (p.flow i) (one_met line v (Flow (p.flow i)) (flow_there line v plan has.is_plan i x at_x)))
 
-  flows_reported : (i j : ℕ) → Holds plan (FlowRepeated i j) → IsReported line v (FlowRepeated (place_in_file these.flows.items i) (place_in_file these.flows.items j))
+  flows_reported : (i j : ℕ) → Holds plan (FlowRepeated i j) → IsReported line v
+      (FlowRepeated (place_in_file these.flows.items i) (place_in_file these.flows.items j))
   flows_reported i j holds =
       subst (λ a. IsReported line v (FlowRepeated a (place_in_file these.flows.items j))) (sym (flow_is i holds.first holds.first_is))
       (subst (λ b. IsReported line v (FlowRepeated (p.flow i) b)) (sym (flow_is j holds.second holds.second_is)) (
@@ -132,10 +134,12 @@ module _ (line : ProductLine) (v : List ℕ) (findings : List LineFinding) (has 
 
   contested_reported : (i : ℕ) → Holds plan (FlowContested i) → not (has_end_in_pool line (place_in_file these.flows.items i)) ≡ true
       → IsReported line v (FlowContested (place_in_file these.flows.items i))
-  contested_reported i holds = subst (λ a. not (has_end_in_pool line a) ≡ true → IsReported line v (FlowContested a)) (sym (flow_is i holds.value holds.value_is))
+  contested_reported i holds = subst (λ a. not (has_end_in_pool line a) ≡ true → IsReported line v (FlowContested a))
+      (sym (flow_is i holds.value holds.value_is))
       (λ outside. (in_whole (FlowContested i) holds, contested_there line v plan has.is_plan i holds (not-true (has_end_in_pool line (p.flow i)) outside)))
 
-  reported : (x : Finding) → Holds plan x → goes_by_conditions line (OfPlan (finding_in_file these x)) ≡ true → comes_by_absence (finding_in_file these x) ≡ false
+  reported : (x : Finding) → Holds plan x → goes_by_conditions line (OfPlan (finding_in_file these x)) ≡ true
+      → comes_by_absence (finding_in_file these x) ≡ false
       → IsReported line v (finding_in_file these x)
   reported (SameName i j) holds goes present =
       units_stated SameName i j holds.first holds.second holds.first_is holds.second_is (in_whole (SameName i j) holds) (λ k l met. met)
@@ -144,8 +148,10 @@ module _ (line : ProductLine) (v : List ℕ) (findings : List LineFinding) (has 
   reported (TooFewAddresses n) holds goes present = absurd (false≢true goes)
   reported (BadPgn g) holds goes present = group_reported BadPgn g holds.value holds.value_is (in_whole (BadPgn g) holds) (λ k met. met)
   reported (SamePgn g h) holds goes present = groups_stated g h holds
-  reported (SignalWidth g s) holds goes present = group_reported (λ a. SignalWidth a s) g holds.value holds.value_is (in_whole (SignalWidth g s) holds) (λ k met. met)
-  reported (SignalOutside g s) holds goes present = group_reported (λ a. SignalOutside a s) g holds.value holds.value_is (in_whole (SignalOutside g s) holds) (λ k met. met)
+  reported (SignalWidth g s) holds goes present = group_reported (λ a. SignalWidth a s) g holds.value holds.value_is (in_whole (SignalWidth g s) holds)
+      (λ k met. met)
+  reported (SignalOutside g s) holds goes present = group_reported (λ a. SignalOutside a s) g holds.value holds.value_is (in_whole (SignalOutside g s) holds)
+      (λ k met. met)
   reported (SignalOverlap g s t) holds goes present =
       group_reported (λ a. SignalOverlap a s t) g holds.value holds.value_is (in_whole (SignalOverlap g s t) holds) (λ k met. met)
   reported (FlowToOne f) holds goes present = flow_stated FlowToOne f holds.value holds.value_is (in_whole (FlowToOne f) holds) (λ k met. met)
@@ -155,7 +161,8 @@ module _ (line : ProductLine) (v : List ℕ) (findings : List LineFinding) (has 
   reported (PrivateUnsent g) holds goes present = absurd (true≢false present)
   reported (RecordOverlap g s t) holds goes present =
       group_reported (λ a. RecordOverlap a s t) g holds.value holds.value_is (in_whole (RecordOverlap g s t) holds) (λ k met. met)
-  reported (TextOutside g t) holds goes present = group_reported (λ a. TextOutside a t) g holds.value holds.value_is (in_whole (TextOutside g t) holds) (λ k met. met)
+  reported (TextOutside g t) holds goes present = group_reported (λ a. TextOutside a t) g holds.value holds.value_is (in_whole (TextOutside g t) holds)
+      (λ k met. met)
   reported (NeedUnmet d) holds goes present = absurd (true≢false present)
   reported (RequestUnanswered r) holds goes present = absurd (true≢false present)
   reported (RequestUnheard r) holds goes present = absurd (true≢false present)
@@ -210,7 +217,8 @@ module _ (line : ProductLine) (v : List ℕ) (findings : List LineFinding) (has 
       (there_at (make (place one.i)) place xs b other (there_at (λ c. make c b) place xs a one holds))))
 
   units_back_at : (make : ℕ → ℕ → Finding)
-      → ((i j : ℕ) (x y : UnitPlan) → slice_get plan.units.items i ≡ Some x → slice_get plan.units.items j ≡ Some y → Holds line.plan (make (p.unit i) (p.unit j))
+      → ((i j : ℕ) (x y : UnitPlan) → slice_get plan.units.items i ≡ Some x → slice_get plan.units.items j ≡ Some y
+      → Holds line.plan (make (p.unit i) (p.unit j))
       → Is (make (place_in_file these.units.items i) (place_in_file these.units.items j)))
       → (u w : ℕ) → Holds line.plan (make u w) → meets_any line v (where_together (AUnit u ∷ AUnit w ∷ [])) ≡ true → Is (make u w)
   units_back_at make back u w holds met =
@@ -239,7 +247,8 @@ module _ (line : ProductLine) (v : List ℕ) (findings : List LineFinding) (has 
       (λ i j x y at_x at_y there. reported_here (FlowRepeated i j) (repeated_found p plan line.plan is i j x y at_x at_y there)) f h
       (flow_place line v plan has.is_plan f first) (flow_place line v plan has.is_plan h second) holds
 
-  asked_back : (r s : ℕ) → Holds line.plan (RequestRepeated r s) → meets_any line v (where_together (Request r ∷ Request s ∷ [])) ≡ true → Is (RequestRepeated r s)
+  asked_back : (r s : ℕ) → Holds line.plan (RequestRepeated r s) → meets_any line v (where_together (Request r ∷ Request s ∷ [])) ≡ true
+      → Is (RequestRepeated r s)
   asked_back r s holds met =
       let (first, second) = met_both line v (Request r) (Request s) met in
       both_back p.request plan.requests.items these.requests.items request_is RequestRepeated
@@ -268,11 +277,13 @@ module _ (line : ProductLine) (v : List ℕ) (findings : List LineFinding) (has 
       → ((k : ℕ) → Holds line.plan (make k) → ValueAt Q line.plan.groups.items k)
       → ((i : ℕ) → ValueAt P plan.groups.items i → Is (make (place_in_file these.groups.items i))) → (g : ℕ) → Holds line.plan (make g)
       → meets_any line v (where_together (Group g ∷ [])) ≡ true → Is (make g)
-  group_found make P Q over there here = group_back_at make (λ i x at_x holds. here i (group_back p plan line.plan is P Q over i x at_x (there (p.group i) holds)))
+  group_found make P Q over there here = group_back_at make (λ i x at_x holds. here i
+      (group_back p plan line.plan is P Q over i x at_x (there (p.group i) holds)))
 
   back : (x : Finding) → Holds line.plan x → meets_any line v (conditions_of_plan line x) ≡ true → comes_by_absence x ≡ false → Is x
   back (SameName i j) holds met present =
-      units_back_at SameName (λ a b x y at_x at_y there. reported_here (SameName a b) (units_back p plan line.plan is MayBeOne a b x y at_x at_y there)) i j holds met
+      units_back_at SameName (λ a b x y at_x at_y there. reported_here (SameName a b)
+      (units_back p plan line.plan is MayBeOne a b x y at_x at_y there)) i j holds met
   back (SameFixedAddress i j) holds met present =
       units_back_at SameFixedAddress (λ a b x y at_x at_y there. reported_here (SameFixedAddress a b)
       (units_back p plan line.plan is HaveSameFixedAddress a b x y at_x at_y there)) i j holds met
@@ -281,23 +292,31 @@ module _ (line : ProductLine) (v : List ℕ) (findings : List LineFinding) (has 
       group_found BadPgn _ _ (λ x y same. bad_pgn y x same) (λ k there. there) (λ i here. reported_here (BadPgn i) here) g holds met
   back (SamePgn g h) holds met present = same_pgn_back g h holds met
   back (SignalWidth g s) holds met present =
-      group_found (λ a. SignalWidth a s) _ _ (λ x y same. width y x same s (λ signal. ¬ WidthFits signal)) (λ k there. there) (λ i here. reported_here (SignalWidth i s) here) g holds met
+      group_found (λ a. SignalWidth a s) _ _ (λ x y same. width y x same s (λ signal. ¬ WidthFits signal)) (λ k there. there)
+      (λ i here. reported_here (SignalWidth i s) here) g holds met
   back (SignalOutside g s) holds met present =
-      group_found (λ a. SignalOutside a s) _ _ (λ x y same. outside y x same s) (λ k there. there) (λ i here. reported_here (SignalOutside i s) here) g holds met
+      group_found (λ a. SignalOutside a s) _ _ (λ x y same. outside y x same s) (λ k there. there)
+      (λ i here. reported_here (SignalOutside i s) here) g holds met
   back (SignalOverlap g s t) holds met present =
-      group_found (λ a. SignalOverlap a s t) _ _ (λ x y same. overlap y x same s t SharesBit) (λ k there. there) (λ i here. reported_here (SignalOverlap i s t) here) g holds met
-  back (FlowToOne f) holds met present = flow_back_at FlowToOne (λ i x at_x there. reported_here (FlowToOne i) (to_one_found p plan line.plan is i x at_x there)) f holds
+      group_found (λ a. SignalOverlap a s t) _ _ (λ x y same. overlap y x same s t SharesBit) (λ k there. there)
+      (λ i here. reported_here (SignalOverlap i s t) here) g holds met
+  back (FlowToOne f) holds met present = flow_back_at FlowToOne (λ i x at_x there. reported_here (FlowToOne i)
+      (to_one_found p plan line.plan is i x at_x there)) f holds
       (met_one line v (Flow f) met)
-  back (FlowToSelf f) holds met present = flow_back_at FlowToSelf (λ i x at_x there. reported_here (FlowToSelf i) (to_self_found p plan line.plan is i x at_x there)) f holds
+  back (FlowToSelf f) holds met present = flow_back_at FlowToSelf
+      (λ i x at_x there. reported_here (FlowToSelf i) (to_self_found p plan line.plan is i x at_x there)) f holds
       (met_one line v (Flow f) met)
   back (FlowRepeated f h) holds met present = repeated_back f h holds met
   back (KeptAddress i) holds met present = unit_back_at KeptAddress (λ a x at_x there. reported_here (KeptAddress a)
-      (subst (λ kept. ValueAt (PrefersKept kept) plan.units.items a) (sym is.keep_free) (unit_back p plan line.plan is (PrefersKept line.plan.keep_free) a x at_x there))) i holds met
+      (subst (λ kept. ValueAt (PrefersKept kept) plan.units.items a) (sym is.keep_free)
+      (unit_back p plan line.plan is (PrefersKept line.plan.keep_free) a x at_x there))) i holds met
   back (PrivateUnsent g) holds met present = absurd (true≢false present)
   back (RecordOverlap g s t) holds met present =
-      group_found (λ a. RecordOverlap a s t) _ _ (λ x y same. records y x same s t) (λ k there. there) (λ i here. reported_here (RecordOverlap i s t) here) g holds met
+      group_found (λ a. RecordOverlap a s t) _ _ (λ x y same. records y x same s t) (λ k there. there)
+      (λ i here. reported_here (RecordOverlap i s t) here) g holds met
   back (TextOutside g t) holds met present =
-      group_found (λ a. TextOutside a t) _ _ (λ x y same. text_outside y x same t) (λ k there. there) (λ i here. reported_here (TextOutside i t) here) g holds met
+      group_found (λ a. TextOutside a t) _ _ (λ x y same. text_outside y x same t) (λ k there. there)
+      (λ i here. reported_here (TextOutside i t) here) g holds met
   back (NeedUnmet d) holds met present = absurd (true≢false present)
   back (RequestUnanswered r) holds met present = absurd (true≢false present)
   back (RequestUnheard r) holds met present = absurd (true≢false present)
@@ -306,7 +325,8 @@ module _ (line : ProductLine) (v : List ℕ) (findings : List LineFinding) (has 
       group_found WhenOutside _ _ (λ x y same. selector_outside y x same) (λ k there. there) (λ i here. reported_here (WhenOutside i) here) g holds met
   back (RequestRepeated r s) holds met present = asked_back r s holds met
   back (SilentAddress i j) holds met present =
-      units_back_at SilentAddress (λ a b x y at_x at_y there. reported_here (SilentAddress a b) (units_back p plan line.plan is HaveSilentAddress a b x y at_x at_y there)) i j holds met
+      units_back_at SilentAddress (λ a b x y at_x at_y there. reported_here (SilentAddress a b)
+      (units_back p plan line.plan is HaveSilentAddress a b x y at_x at_y there)) i j holds met
   back (SilentInPool i) holds met present = unit_back_at SilentInPool (λ a x at_x there. reported_here (SilentInPool a)
       (subst (λ n. ValueAt (IsSilentInPool plan.keep_free n) plan.units.items a) (sym is.strangers)
       (subst (λ kept. ValueAt (IsSilentInPool kept line.plan.strangers) plan.units.items a) (sym is.keep_free)
@@ -325,7 +345,8 @@ module _ (line : ProductLine) (v : List ℕ) (findings : List LineFinding) (has 
   pub plan_reported : (x : Finding) → goes_by_conditions line (OfPlan x) ≡ true → comes_by_absence x ≡ false → Is x → IsFoundOfParts line v (OfPlan x)
   plan_reported x goes present one =
       let (y, holds, same) = of_plan x present one in
-      let (there, met) = subst (λ z. goes_by_conditions line (OfPlan z) ≡ true → comes_by_absence z ≡ false → IsReported line v z) same (reported y holds) goes present in
+      let (there, met) = subst (λ z. goes_by_conditions line (OfPlan z) ≡ true → comes_by_absence z ≡ false → IsReported line v z) same
+      (reported y holds) goes present in
       ((are_findings line.plan).complete x there, met)
 
   pub reported_plan : (x : Finding) → comes_by_absence x ≡ false → IsFoundOfParts line v (OfPlan x) → Is x

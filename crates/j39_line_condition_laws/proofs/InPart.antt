@@ -119,14 +119,16 @@ module _ (at : Places) (part whole : Plan) (is : IsPartAt at part whole) where
   -- ---- flows
 
   module _ (i : ℕ) (x : FlowPlan) (at_x : slice_get part.flows.items i ≡ Some x) where
-    flow_back : (P Q : FlowPlan → Type 0) → ((y : FlowPlan) → IsFlowThere at x y → Q y → P x) → ValueAt Q whole.flows.items (at.flow i) → ValueAt P part.flows.items i
+    flow_back : (P Q : FlowPlan → Type 0) → ((y : FlowPlan) → IsFlowThere at x y → Q y → P x) → ValueAt Q whole.flows.items (at.flow i)
+        → ValueAt P part.flows.items i
     flow_back P Q = value_back at.flow (IsFlowThere at) part.flows.items whole.flows.items is.flows P Q i x at_x
 
     -- the group that it sends
     sent_back : (P Q : GroupPlan → Type 0) → ((g h : GroupPlan) → IsGroupThere h g → Q h → P g) → (y : FlowPlan) → IsFlowThere at x y
         → ValueAt Q whole.groups.items y.group → ValueAt P part.groups.items x.group
     sent_back P Q over y stands =
-        named_back P Q over x.group y.group (all_at (λ (f : FlowPlan). f.group < length part.groups.items) part.flows.items part.flow_groups i x at_x) stands.group
+        named_back P Q over x.group y.group (all_at (λ (f : FlowPlan). f.group
+        < length part.groups.items) part.flows.items part.flow_groups i x at_x) stands.group
 
     sends_back : (g v : GroupPlan) → IsGroupThere g v → (y : FlowPlan) → IsFlowThere at x y → Sends whole.groups.items v y → Sends part.groups.items g x
     sends_back g v same = sent_back (λ sent. sent.label.bytes ≡ g.label.bytes) (λ sent. sent.label.bytes ≡ v.label.bytes)
@@ -162,13 +164,15 @@ module _ (at : Places) (part whole : Plan) (is : IsPartAt at part whole) where
   module _ (i j : ℕ) (f k : FlowPlan) (at_f : slice_get part.flows.items i ≡ Some f) (at_k : slice_get part.flows.items j ≡ Some k) where
     -- two flows of the part which send both in the whole
     pub sent_found : (g h v w : GroupPlan) → IsGroupThere g v → IsGroupThere h w
-        → ValueAt (λ x. Sends whole.groups.items v x × ValueAt (λ y. (y.sender ≡ x.sender) × Sends whole.groups.items w y × DoReceiversMeet v w x y) whole.flows.items (at.flow j))
+        → ValueAt (λ x. Sends whole.groups.items v x × ValueAt (λ y. (y.sender ≡ x.sender) × Sends whole.groups.items w y
+        × DoReceiversMeet v w x y) whole.flows.items (at.flow j))
         whole.flows.items (at.flow i) → AreSentTogether part.groups.items part.flows.items g h
     sent_found g h v w same also found = (
       i,
       flow_back i f at_f (λ x. Sends part.groups.items g x
           × ((q : ℕ) × ValueAt (λ y. (y.sender ≡ x.sender) × Sends part.groups.items h y × DoReceiversMeet g h x y) part.flows.items q))
-          (λ x. Sends whole.groups.items v x × ValueAt (λ y. (y.sender ≡ x.sender) × Sends whole.groups.items w y × DoReceiversMeet v w x y) whole.flows.items (at.flow j))
+          (λ x. Sends whole.groups.items v x × ValueAt (λ y. (y.sender ≡ x.sender) × Sends whole.groups.items w y × DoReceiversMeet v w x y) whole.flows.items
+          (at.flow j))
           (λ x one (first, second). (
             sends_back i f at_f g v same x one first,
             (
@@ -204,12 +208,16 @@ module _ (at : Places) (part whole : Plan) (is : IsPartAt at part whole) where
     group_of : (k : ℕ) (q : RequestPlan) → slice_get part.requests.items k ≡ Some q → q.group < length part.groups.items
     group_of = all_at (λ (q : RequestPlan). q.group < length part.groups.items) part.requests.items part.request_groups
 
-    one_number : (x y : RequestPlan) → IsRequestThere at r x → IsRequestThere at s y → AskForOneNumber whole.groups.items x y → AskForOneNumber part.groups.items r s
-    one_number x y one other = named_back (λ g. ValueAt (λ h. g.pgn ≡ h.pgn) part.groups.items s.group) (λ v. ValueAt (λ w. v.pgn ≡ w.pgn) whole.groups.items y.group)
-        (λ g v same. named_back (λ h. g.pgn ≡ h.pgn) (λ w. v.pgn ≡ w.pgn) (λ h w also number. same.pgn ∙ number ∙ sym also.pgn) s.group y.group (group_of j s at_s) other.group)
+    one_number : (x y : RequestPlan) → IsRequestThere at r x → IsRequestThere at s y → AskForOneNumber whole.groups.items x y
+        → AskForOneNumber part.groups.items r s
+    one_number x y one other = named_back (λ g. ValueAt (λ h. g.pgn ≡ h.pgn) part.groups.items s.group)
+        (λ v. ValueAt (λ w. v.pgn ≡ w.pgn) whole.groups.items y.group)
+        (λ g v same. named_back (λ h. g.pgn ≡ h.pgn) (λ w. v.pgn ≡ w.pgn) (λ h w also number. same.pgn ∙ number ∙ sym also.pgn) s.group y.group
+        (group_of j s at_s) other.group)
         r.group x.group (group_of i r at_r) one.group
 
-    pub asked_found : PairAt (AskTheSame whole.groups.items) whole.requests.items (at.request i) (at.request j) → PairAt (AskTheSame part.groups.items) part.requests.items i j
+    pub asked_found : PairAt (AskTheSame whole.groups.items) whole.requests.items (at.request i) (at.request j)
+        → PairAt (AskTheSame part.groups.items) part.requests.items i j
     asked_found = pair_back at.request (IsRequestThere at) part.requests.items whole.requests.items is.requests (AskTheSame part.groups.items)
         (AskTheSame whole.groups.items) i j r s at_r at_s (λ x y one other (number, sender, to). (
           one_number x y one other number,

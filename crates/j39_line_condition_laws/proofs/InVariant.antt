@@ -28,16 +28,19 @@ true_and true = refl
 true_and false = refl
 
 module _ (line : ProductLine) (v : List ℕ) (plan : Plan) (is : IsVariantPlan line v plan) (there : WhatIsThere) (are : IsWhatIsThere line v there) where
-  pub are_flows : AreThose (Comes (moved_flow (unit_places line v) (group_places line v))) (is_flow_there line v) line.plan.flows.items plan.flows.items there.flows.items
+  pub are_flows : AreThose (Comes (moved_flow (unit_places line v) (group_places line v)))
+      (is_flow_there line v) line.plan.flows.items plan.flows.items there.flows.items
   are_flows = are_those (moved_flow (unit_places line v) (group_places line v)) (is_flow_there line v) (flags v line.lists.flows.items)
       line.plan.flows.items plan.flows.items there.flows.items is.has_flows are.has_flows (flow_test line v)
 
-  pub are_requests : AreThose (Comes (moved_request (unit_places line v) (group_places line v))) (is_request_there line v) line.plan.requests.items plan.requests.items
+  pub are_requests : AreThose (Comes (moved_request (unit_places line v) (group_places line v)))
+      (is_request_there line v) line.plan.requests.items plan.requests.items
       there.requests.items
   are_requests = are_those (moved_request (unit_places line v) (group_places line v)) (is_request_there line v) (flags v line.lists.requests.items)
       line.plan.requests.items plan.requests.items there.requests.items is.has_requests are.has_requests (request_test line v)
 
-  pub are_needs : AreThose (Comes (moved_need (unit_places line v) (group_places line v))) (is_need_there line v) line.plan.needs.items plan.needs.items there.needs.items
+  pub are_needs : AreThose (Comes (moved_need (unit_places line v) (group_places line v)))
+      (is_need_there line v) line.plan.needs.items plan.needs.items there.needs.items
   are_needs = are_those (moved_need (unit_places line v) (group_places line v)) (is_need_there line v) (flags v line.lists.needs.items)
       line.plan.needs.items plan.needs.items there.needs.items is.has_needs are.has_needs (need_test line v)
 

@@ -1,6 +1,7 @@
 -- The plan of a variant is a part of all that stands in the file.
 use Rattle.std.specs.declared.alloc.Global.{Global}
-use Rattle.std.proofs.Common.{◌≡◌, ℕ, zero, suc, ◌+◌, ◌<◌, Bool, true, false, ◌&&◌, List, [], ◌∷◌, length, Option, Some, None, is_some, option_map, unwrap_or, Vec, refl, sym, ◌∙◌, ap, subst, arith}
+use Rattle.std.proofs.Common.{◌≡◌, ℕ, zero, suc, ◌+◌, ◌<◌, Bool, true, false, ◌&&◌, List, [], ◌∷◌, length, Option, Some, None, is_some, option_map, unwrap_or}
+use Rattle.std.proofs.Common.{Vec, refl, sym, ◌∙◌, ap, subst, arith}
 use Rattle.std.specs.List.{filter_map, range_with_len, slice_get}
 use Rattle.std.specs.Option.{option_map_or}
 use Rattle.std.proofs.lemmas.Bool.{false≢true}
@@ -16,7 +17,8 @@ use Rattle.j39_network.specs.declared.plan.unit_plan.UnitPlan.{UnitPlan}
 use Rattle.j39_search.specs.ListPlaces.{ValueAt}
 use Rattle.j39_variants.specs.declared.line.Alternative.{Alternative}
 use Rattle.j39_variants.specs.declared.line.ProductLine.{ProductLine}
-use Rattle.j39_variants.specs.VariantPlans.{flag_at, flags, group_places, IsCopyOfGroup, IsVariantPlan, moved_flow, moved_receivers, moved_request, picked, place_at, unit_places}
+use Rattle.j39_variants.specs.VariantPlans.{flag_at, flags, group_places, IsCopyOfGroup, IsVariantPlan, moved_flow, moved_receivers, moved_request, picked}
+use Rattle.j39_variants.specs.VariantPlans.{place_at, unit_places}
 use Rattle.j39_variants.specs.Variants.{is_in}
 use Rattle.j39_line_findings.specs.MissedNeeds.{is_group_there, is_in_at, is_unit_there}
 use Rattle.j39_line_findings.specs.There.{is_flow_there, is_receiver_there, is_request_there, IsWhatIsThere, place_in_file, places_of_those}
@@ -27,7 +29,8 @@ use Rattle.j39_line_part_laws.proofs.Filtering.{flow_test, kept_at, length-kept,
 use Rattle.j39_line_part_laws.proofs.Parts.{flow_of, request_of}
 use Rattle.j39_line_part_laws.proofs.Picking.{copy_of, its_copy, kept, some_kept, some_picked, thin, thin_rises}
 use Rattle.j39_line_part_laws.proofs.PlacesInFile.{flagged, flagged_kept, length-range}
-use Rattle.j39_line_condition_laws.proofs.FilePlaces.{all_kept, all_more, all_picked, all_set, HasPlace, kept_place, kept_set, named_place, picked_place, picked_set, place_of, set_kept, whole_place}
+use Rattle.j39_line_condition_laws.proofs.FilePlaces.{all_kept, all_more, all_picked, all_set, HasPlace, kept_place, kept_set, named_place, picked_place}
+use Rattle.j39_line_condition_laws.proofs.FilePlaces.{picked_set, place_of, set_kept, whole_place}
 
 -- a group of which this is a copy
 copied : (g h : GroupPlan) → IsCopyOfGroup g h → IsGroupThere h g
@@ -112,14 +115,16 @@ module _ (line : ProductLine) (v : List ℕ) where
 
   flow_stands : (f y : FlowPlan) → flow_here f ≡ Some y → IsFlowThere at y f
   flow_stands f y moved =
-      let its = flow_of f (place_at (group_places line v) f.group) (place_at (unit_places line v) f.sender) (moved_receivers (unit_places line v) f.to) y moved in
+      let its = flow_of f (place_at (group_places line v) f.group) (place_at (unit_places line v) f.sender)
+      (moved_receivers (unit_places line v) f.to) y moved in
       let group = named_place group_flags f.group y.group its.group in
       let sender = named_place unit_flags f.sender y.sender its.sender in
       let to = receivers_of f.to y.to its.to in grind (arith, its, group, sender, to)
 
   request_stands : (r y : RequestPlan) → request_here r ≡ Some y → IsRequestThere at y r
   request_stands r y moved =
-      let its = request_of r (place_at (group_places line v) r.group) (place_at (unit_places line v) r.sender) (moved_receivers (unit_places line v) r.to) y moved in
+      let its = request_of r (place_at (group_places line v) r.group) (place_at (unit_places line v) r.sender)
+      (moved_receivers (unit_places line v) r.to) y moved in
       let group = named_place group_flags r.group y.group its.group in
       let sender = named_place unit_flags r.sender y.sender its.sender in
       let to = receivers_of r.to y.to its.to in grind (arith, its, group, sender, to)
@@ -202,7 +207,8 @@ module _ (line : ProductLine) (v : List ℕ) where
     pub flow_place : (f : ℕ) → is_flow_there line v f ≡ true → HasPlace at.flow plan.flows.items f
     flow_place f there =
         let (x, at_x) = some_value (slice_get line.plan.flows.items f)
-        (λ flow. is_in_at v line.lists.flows.items f && (is_group_there line v flow.group && (is_unit_there line v flow.sender && is_receiver_there line v flow.to))) there in
+        (λ flow. is_in_at v line.lists.flows.items f && (is_group_there line v flow.group
+        && (is_unit_there line v flow.sender && is_receiver_there line v flow.to))) there in
         subst (λ l. HasPlace at.flow l f) (sym is.has_flows)
         (kept_place flow_here (flags v line.lists.flows.items) line.plan.flows.items f x at_x (sym (flow_flag f x at_x) ∙ there))
 
@@ -219,10 +225,12 @@ module _ (line : ProductLine) (v : List ℕ) where
     module _ (these : WhatIsThere) (are : IsWhatIsThere line v these) where
       pub unit_in_file : (i : ℕ) (x : UnitPlan) → slice_get plan.units.items i ≡ Some x → place_in_file these.units.items i ≡ at.unit i
       unit_in_file i x at_x =
-          let (k, at_k) = parallel unit_flags line.plan.units.items (range_with_len 0 (length line.plan.units.items)) (sym (length-range 0 (length line.plan.units.items)))
+          let (k, at_k) = parallel unit_flags line.plan.units.items (range_with_len 0 (length line.plan.units.items))
+          (sym (length-range 0 (length line.plan.units.items)))
           i x (unit_picked i x at_x) in
           in_file_at unit_flags (length line.plan.units.items) unit_count these.units.items
-          (are.has_units ∙ flagged (is_unit_there line v) unit_flags (length line.plan.units.items) unit_count (λ m below. test_in v line.lists.units.items m)) i k at_k
+          (are.has_units ∙ flagged (is_unit_there line v) unit_flags (length line.plan.units.items) unit_count
+          (λ m below. test_in v line.lists.units.items m)) i k at_k
 
       pub group_in_file : (i : ℕ) (x : GroupPlan) → slice_get plan.groups.items i ≡ Some x → place_in_file these.groups.items i ≡ at.group i
       group_in_file i x at_x =
@@ -230,21 +238,26 @@ module _ (line : ProductLine) (v : List ℕ) where
           let (k, at_k) = parallel group_flags line.plan.groups.items (range_with_len 0 (length line.plan.groups.items))
           (sym (length-range 0 (length line.plan.groups.items))) i copy.value copy.value_is in
           in_file_at group_flags (length line.plan.groups.items) group_count these.groups.items
-          (are.has_groups ∙ flagged (is_group_there line v) group_flags (length line.plan.groups.items) group_count (λ m below. test_in v line.lists.groups.items m)) i k at_k
+          (are.has_groups ∙ flagged (is_group_there line v) group_flags (length line.plan.groups.items) group_count
+          (λ m below. test_in v line.lists.groups.items m)) i k at_k
 
       -- of what is kept by what it names
-      in_file_of : {X : Type 0} (f : X → Option X) (test : ℕ → Bool) (lists : List (Vec Alternative Global)) (xs : List X) (places : List ℕ) → length (flags v lists) ≡ length xs
+      in_file_of : {X : Type 0} (f : X → Option X) (test : ℕ → Bool) (lists : List (Vec Alternative Global)) (xs : List X) (places : List ℕ)
+          → length (flags v lists) ≡ length xs
           → places ≡ places_of_those test (length xs) → ((k : ℕ) (x : X) → slice_get xs k ≡ Some x → test k ≡ (flag_at (flags v lists) k && is_some (f x)))
-          → (i : ℕ) (x : X) → slice_get (filter_map f (picked (flags v lists) xs)) i ≡ Some x → place_in_file places i ≡ whole_place (kept f (flags v lists) xs) i
+          → (i : ℕ) (x : X) → slice_get (filter_map f (picked (flags v lists) xs)) i ≡ Some x
+          → place_in_file places i ≡ whole_place (kept f (flags v lists) xs) i
       in_file_of f test lists xs places counted are_those tests i x at_x =
           let (k, at_k) = parallel_kept f (flags v lists) xs (range_with_len 0 (length xs)) (sym (length-range 0 (length xs))) i x at_x in
           in_file_at (kept f (flags v lists) xs) (length xs) (length-kept f (flags v lists) xs counted) places
           (are_those ∙ flagged_kept test f (flags v lists) xs counted tests) i k at_k
 
       pub flow_in_file : (i : ℕ) (x : FlowPlan) → slice_get plan.flows.items i ≡ Some x → place_in_file these.flows.items i ≡ at.flow i
-      flow_in_file i x at_x = in_file_of flow_here (is_flow_there line v) line.lists.flows.items line.plan.flows.items these.flows.items listed_flows are.has_flows
+      flow_in_file i x at_x = in_file_of flow_here
+          (is_flow_there line v) line.lists.flows.items line.plan.flows.items these.flows.items listed_flows are.has_flows
           (flow_test line v) i x (ap (λ l. slice_get l i) (sym is.has_flows) ∙ at_x)
 
       pub request_in_file : (i : ℕ) (x : RequestPlan) → slice_get plan.requests.items i ≡ Some x → place_in_file these.requests.items i ≡ at.request i
-      request_in_file i x at_x = in_file_of request_here (is_request_there line v) line.lists.requests.items line.plan.requests.items these.requests.items listed_requests
+      request_in_file i x at_x = in_file_of request_here
+          (is_request_there line v) line.lists.requests.items line.plan.requests.items these.requests.items listed_requests
           are.has_requests (request_test line v) i x (ap (λ l. slice_get l i) (sym is.has_requests) ∙ at_x)

@@ -1,5 +1,6 @@
 -- What the conditions of absence ask of a variant, as tests.
-use Rattle.std.proofs.Common.{◌≡◌, ℕ, zero, suc, ◌+◌, Bool, true, false, not, ◌&&◌, ◌||◌, if◌then◌else◌, List, [], ◌∷◌, Some, refl, sym, ◌∙◌, ap, inl, inr, arith}
+use Rattle.std.proofs.Common.{◌≡◌, ℕ, zero, suc, ◌+◌, Bool, true, false, not, ◌&&◌, ◌||◌, if◌then◌else◌, List, [], ◌∷◌, Some, refl, sym, ◌∙◌, ap, inl, inr}
+use Rattle.std.proofs.Common.{arith}
 use Rattle.std.specs.List.{list_any, slice_get}
 use Rattle.std.proofs.lemmas.Bool.{and_from, and_parts, false≢true, or_cases, or_left, or_right}
 use Rattle.std.proofs.lemmas.List.Folds.{list_any-append}
@@ -13,7 +14,8 @@ use Rattle.j39_network.specs.declared.plan.need_plan.NeedPlan.{NeedPlan}
 use Rattle.j39_network.specs.declared.plan.request_plan.RequestPlan.{RequestPlan}
 use Rattle.j39_part_laws.proofs.Places.{no_value}
 use Rattle.j39_variants.specs.declared.line.ProductLine.{ProductLine}
-use Rattle.j39_line_findings.specs.Conditions.{answer_with, are_there, astray_by, astray_conditions, Condition, flow_where, flows_where, meets_any, meets_condition}
+use Rattle.j39_line_findings.specs.Conditions.{answer_with, are_there, astray_by, astray_conditions, Condition, flow_where, flows_where, meets_any}
+use Rattle.j39_line_findings.specs.Conditions.{meets_condition}
 use Rattle.j39_line_findings.specs.Conditions.{source_parts, sources_of, unmet_condition, unsent_condition, unserved_condition}
 use Rattle.j39_line_findings.specs.FullVariants.{does_bring}
 use Rattle.j39_line_findings.specs.MissedNeeds.{is_group_there, is_need_asked_for}
@@ -76,7 +78,8 @@ module _ {X Y : Type 0} (test : Y → Bool) (report : ℕ → X → List Y) wher
         meets = ap (λ n. list_any test (report n its.value)) (let e : its.k ≡ 0 + its.k = omega arith in e) ∙ its.meets;
       }
 
-  pub at_reported : (xs : List X) (k : ℕ) (x : X) → slice_get xs k ≡ Some x → list_any test (report k x) ≡ true → list_any test (lines_of_each report 0 xs) ≡ true
+  pub at_reported : (xs : List X) (k : ℕ) (x : X) → slice_get xs k ≡ Some x → list_any test (report k x) ≡ true
+      → list_any test (lines_of_each report 0 xs) ≡ true
   at_reported xs k x at some = from_reported 0 xs k x at (ap (λ n. list_any test (report n x)) (let e : 0 + k ≡ k = omega arith in e) ∙ some)
 
 -- ---- lists by cases
@@ -121,15 +124,18 @@ module _ (line : ProductLine) (v : List ℕ) where
       (sym (any_if (are_there line v) (test its.value) (Flow its.k ∷ [])) ∙ its.meets) in
       record { k = its.k; value = its.value; value_is = its.value_is; meets = (passes, sym (and_all (is_flow_there line v its.k)) ∙ there) }
 
-  pub at_flow : (test : FlowPlan → Bool) (k : ℕ) (flow : FlowPlan) → slice_get line.plan.flows.items k ≡ Some flow → test flow ≡ true → is_flow_there line v k ≡ true
+  pub at_flow : (test : FlowPlan → Bool) (k : ℕ) (flow : FlowPlan) → slice_get line.plan.flows.items k ≡ Some flow → test flow ≡ true
+      → is_flow_there line v k ≡ true
       → is_some_there test ≡ true
   at_flow test k flow at passes there = at_reported (are_there line v) (flow_where test) line.plan.flows.items k flow at
-      (any_if (are_there line v) (test flow) (Flow k ∷ []) ∙ and_from (test flow) (are_there line v (Flow k ∷ [])) passes (and_all (is_flow_there line v k) ∙ there))
+      (any_if (are_there line v) (test flow) (Flow k ∷ []) ∙ and_from (test flow) (are_there line v (Flow k ∷ [])) passes
+      (and_all (is_flow_there line v k) ∙ there))
 
   -- ---- groups and requests
 
   pub unsent_met : (g : ℕ) (group : GroupPlan)
-      → meets_any line v (unsent_condition line g group) ≡ (group.private && (is_group_there line v g && not (is_some_there (sends line.plan.groups.items group))))
+      → meets_any line v (unsent_condition line g group) ≡ (group.private
+      && (is_group_there line v g && not (is_some_there (sends line.plan.groups.items group))))
   unsent_met g group =
       any_if (meets_condition line v) group.private (record { together = Group g ∷ []; lacking = flows_where line (sends line.plan.groups.items group) })
       ∙ ap (λ b. group.private && (b && not (is_some_there (sends line.plan.groups.items group)))) (and_all (is_group_there line v g))
@@ -245,15 +251,18 @@ module _ (line : ProductLine) (v : List ℕ) where
     where
       by : (o : Bool) → flow.on_request ≡ o → list_any (are_there line v) (parts_by k flow (does_bring need flow) flow.on_request) ≡ true
       by false is_o =
-          ap (λ b. list_any (are_there line v) (parts_by k flow b flow.on_request)) source.brings ∙ ap (λ o. list_any (are_there line v) (parts_by k flow true o)) is_o
+          ap (λ b. list_any (are_there line v) (parts_by k flow b flow.on_request)) source.brings ∙ ap
+          (λ o. list_any (are_there line v) (parts_by k flow true o)) is_o
           ∙ or_none (are_there line v (Flow k ∷ [])) ∙ and_all (is_flow_there line v k) ∙ source.is_there
       by true is_o =
           let its = source.asked is_o in
-          ap (λ b. list_any (are_there line v) (parts_by k flow b flow.on_request)) source.brings ∙ ap (λ o. list_any (are_there line v) (parts_by k flow true o)) is_o
+          ap (λ b. list_any (are_there line v) (parts_by k flow b flow.on_request)) source.brings ∙ ap
+          (λ o. list_any (are_there line v) (parts_by k flow true o)) is_o
           ∙ at_reported (are_there line v) (answer_with k flow) line.plan.requests.items its.k its.value its.value_is
           (any_if (are_there line v) (serves its.value flow) (Flow k ∷ Request its.k ∷ [])
           ∙ and_from (serves its.value flow) (are_there line v (Flow k ∷ Request its.k ∷ [])) its.meets.0
           (and_from (is_flow_there line v k) (is_request_there line v its.k && true) source.is_there (and_all (is_request_there line v its.k) ∙ its.meets.1)))
 
-  pub at_source : (need : NeedPlan) (k : ℕ) (flow : FlowPlan) → slice_get line.plan.flows.items k ≡ Some flow → IsSource need k flow → is_some_source need ≡ true
+  pub at_source : (need : NeedPlan) (k : ℕ) (flow : FlowPlan) → slice_get line.plan.flows.items k ≡ Some flow → IsSource need k flow
+      → is_some_source need ≡ true
   at_source need k flow at source = at_reported (are_there line v) (source_parts line need) line.plan.flows.items k flow at (from_source need k flow source)

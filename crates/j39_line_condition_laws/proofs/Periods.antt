@@ -1,5 +1,6 @@
 -- That a flow has no period is reported exactly where something is known of the bus.
-use Rattle.std.proofs.Common.{◌≡◌, ℕ, ◌+◌, ◌<◌, List, ◌++◌, length, map, Bool, true, is_some, Contains, Option, Some, None, option_map, refl, sym, ◌∙◌, ap, subst, inl, inr, arith, slice_index_or}
+use Rattle.std.proofs.Common.{◌≡◌, ℕ, ◌+◌, ◌<◌, List, ◌++◌, length, map, Bool, true, is_some, Contains, Option, Some, None, option_map, refl, sym, ◌∙◌, ap}
+use Rattle.std.proofs.Common.{subst, inl, inr, arith, slice_index_or}
 use Rattle.std.specs.List.{slice_get}
 use Rattle.std.specs.Option.{option_and_then}
 use Rattle.std.proofs.lemmas.List.{length-map}
@@ -11,7 +12,8 @@ use Rattle.j39_load.specs.BusTimes.{timing_of, with_claims}
 use Rattle.j39_load.specs.Delays.{HasDelay}
 use Rattle.j39_load.specs.LineLists.{lines_of_each}
 use Rattle.j39_load.proofs.ReportedLines.{of_asked}
-use Rattle.j39_load.specs.LoadFindings.{all_findings, AreLoadFindings, flows_asked_too_often, AsksOfBus, further_findings, lateness, load_findings, overload, without_period}
+use Rattle.j39_load.specs.LoadFindings.{all_findings, AreLoadFindings, flows_asked_too_often, AsksOfBus, further_findings, lateness, load_findings, overload}
+use Rattle.j39_load.specs.LoadFindings.{without_period}
 use Rattle.j39_load.specs.FlowLoads.{asked_load, load_of_flow}
 use Rattle.j39_load.specs.declared.findings.load_finding.LoadFinding.{LoadFinding}
 use Rattle.j39_load.specs.declared.findings.load_finding.LoadFinding.TheVariants.{NoPeriod, Overload, LateFlow, NeedTooOld, AskedTooOften}
@@ -47,13 +49,16 @@ module _ (plan : Plan) (timing : Timing) (stays : UnitPlan → Bool) (ds : List 
   load_is : (f : ℕ) (flow : FlowPlan) → slice_get plan.flows.items f ≡ Some flow → (pace : Pace) → flow.pace ≡ Some pace
       → (l : FlowLoad) × (load_of_flow timing plan stays flow ≡ Some l)
   load_is f flow at_f pace paced =
-      let (group, at_group) = value_at plan.groups.items flow.group (all_at (λ (x : FlowPlan). x.group < length plan.groups.items) plan.flows.items plan.flow_groups f flow at_f) in (
+      let (group, at_group) = value_at plan.groups.items flow.group
+      (all_at (λ (x : FlowPlan). x.group < length plan.groups.items) plan.flows.items plan.flow_groups f flow at_f) in (
         asked_load timing plan.requests.items plan.units.items stays flow pace group,
-        ap (option_and_then (λ p. option_map (asked_load timing plan.requests.items plan.units.items stays flow p) (slice_get plan.groups.items flow.group))) paced
+        ap (option_and_then (λ p. option_map (asked_load timing plan.requests.items plan.units.items stays flow p)
+            (slice_get plan.groups.items flow.group))) paced
             ∙ ap (option_map (asked_load timing plan.requests.items plan.units.items stays flow pace)) at_group,
       )
 
-  unpaced_by : (f : ℕ) (flow : FlowPlan) → slice_get plan.flows.items f ≡ Some flow → slice_get (map (load_of_flow timing plan stays) plan.flows.items) f ≡ Some None
+  unpaced_by : (f : ℕ) (flow : FlowPlan) → slice_get plan.flows.items f ≡ Some flow → slice_get (map (load_of_flow timing plan stays) plan.flows.items) f
+      ≡ Some None
       → flow.pace ≡ None
   unpaced_by f flow at_f none = go flow.pace refl
     where
@@ -67,7 +72,8 @@ module _ (plan : Plan) (timing : Timing) (stays : UnitPlan → Bool) (ds : List 
       → HasDelay timing (asked_of timing plan stays) f d → d ≡ None
   no_delay f flow at_f unpaced None has = refl
   no_delay f flow at_f unpaced (Some delay) (buffering, is, (l, is_l, rest)) =
-      absurd (none-some l (ap (option_and_then (λ p. option_map (asked_load timing plan.requests.items plan.units.items stays flow p) (slice_get plan.groups.items flow.group))) (sym unpaced)
+      absurd (none-some l (ap (option_and_then (λ p. option_map (asked_load timing plan.requests.items plan.units.items stays flow p)
+      (slice_get plan.groups.items flow.group))) (sym unpaced)
       ∙ same_Some _ _ (sym (asked_at f flow at_f) ∙ is_l)))
 
   has_delay : (f : ℕ) → f < length ds → HasDelay timing (asked_of timing plan stays) f (slice_index_or ds f None)
@@ -81,15 +87,16 @@ module _ (plan : Plan) (timing : Timing) (stays : UnitPlan → Bool) (ds : List 
               | inl old ↦ let (d, is_it) = of_old timing plan ds (NoPeriod f) old in absurd (not_old f d is_it)
               | inr asked ↦ absurd (let its = of_asked plan.requests.items plan.flows.items (NoPeriod f) asked in not_asked f its.0 its.4)
             ]
-        | inl others ↦ elim (Contains-append_cases (lines_of_each without_period 0 ds) (overload timing load ++ lines_of_each lateness 0 ds) (NoPeriod f) others) [
-          | inl here ↦ found here
-          | inr more ↦ elim (Contains-append_cases (overload timing load) (lines_of_each lateness 0 ds) (NoPeriod f) more) [
-            | inl much ↦ absurd (not_much f load (of_overload timing load (NoPeriod f) much).1)
-            | inr late ↦
-                let its = reported_at lateness 0 ds (NoPeriod f) late in
-                absurd (not_late f (0 + its.k) (of_late (0 + its.k) its.value (NoPeriod f) its.reported))
-          ]
-        ]
+        | inl others ↦ elim (Contains-append_cases (lines_of_each without_period 0 ds) (overload timing load ++ lines_of_each lateness 0 ds)
+            (NoPeriod f) others) [
+              | inl here ↦ found here
+              | inr more ↦ elim (Contains-append_cases (overload timing load) (lines_of_each lateness 0 ds) (NoPeriod f) more) [
+                | inl much ↦ absurd (not_much f load (of_overload timing load (NoPeriod f) much).1)
+                | inr late ↦
+                    let its = reported_at lateness 0 ds (NoPeriod f) late in
+                    absurd (not_late f (0 + its.k) (of_late (0 + its.k) its.value (NoPeriod f) its.reported))
+              ]
+            ]
       ]
     where
       not_old : (a b : ℕ) → NoPeriod a ≡ NeedTooOld b → ⊥

@@ -1,5 +1,6 @@
 -- What is picked of a list comes of a value of the file at a place that is reported, and each value that is there goes to one.
-use Rattle.std.proofs.Common.{◌≡◌, ℕ, zero, suc, ◌+◌, Bool, true, false, ◌&&◌, cond, List, [], ◌∷◌, length, filter, Option, Some, None, is_some, unwrap_or, refl, sym, ◌∙◌, ap, arith}
+use Rattle.std.proofs.Common.{◌≡◌, ℕ, zero, suc, ◌+◌, Bool, true, false, ◌&&◌, cond, List, [], ◌∷◌, length, filter, Option, Some, None, is_some, unwrap_or}
+use Rattle.std.proofs.Common.{refl, sym, ◌∙◌, ap, arith}
 use Rattle.std.specs.List.{cons_option, filter_map, range_with_len, slice_get}
 use Rattle.std.proofs.lemmas.Bool.{false≢true}
 use Rattle.std.proofs.lemmas.Option.{same_Some}
@@ -30,7 +31,8 @@ abbrev those : (ℕ → Bool) → ℕ → ℕ → List ℕ
 those test a n = filter test (range_with_len a n)
 
 -- the places of those behind the first one, where this one is there, and where it isn't
-passed : (test : ℕ → Bool) (a n i k : ℕ) → test a ≡ false → slice_get (those test (a + 1) n) i ≡ Some (a + 1 + k) → slice_get (those test a (suc n)) i ≡ Some (a + suc k)
+passed : (test : ℕ → Bool) (a n i k : ℕ) → test a ≡ false → slice_get (those test (a + 1) n) i ≡ Some (a + 1 + k) → slice_get (those test a (suc n)) i ≡ Some
+    (a + suc k)
 passed test a n i k is at = ap (λ t. slice_get (cond t (a ∷ those test (a + 1) n) (those test (a + 1) n)) i) is ∙ at
     ∙ ap Some (let e : a + 1 + k ≡ a + suc k = omega arith in e)
 
@@ -122,7 +124,8 @@ goes_at {X = X} {Y = Y} f test a (true ∷ bs) (z ∷ xs) tests zero x at there 
       comes = sym (ap f (same_Some z x at)) ∙ is_o;
     }
 goes_at f test a (false ∷ bs) (z ∷ xs) tests (suc k) x at there =
-    let its = goes_at f test (a + 1) bs xs (behind_one f test a false bs z xs tests) k x at (ap test (let e : a + 1 + k ≡ a + suc k = omega arith in e) ∙ there) in
+    let its = goes_at f test (a + 1) bs xs (behind_one f test a false bs z xs tests) k x at
+    (ap test (let e : a + 1 + k ≡ a + suc k = omega arith in e) ∙ there) in
     record {
       i = its.i;
       value = its.value;
@@ -199,5 +202,12 @@ module _ {X Y : Type 0} (f : X → Option Y) (test : ℕ → Bool) (bs : List Bo
         };
     into = λ k x at_k there.
         let its = goes_at f test 0 bs xs from_start k x at_k (ap test (let e : 0 + k ≡ k = omega arith in e) ∙ there) in
-        record { i = its.i; value = its.value; value_is = ap (λ l. slice_get l its.i) are ∙ its.value_is; place_is = in_file its.i k its.place_is; comes = its.comes };
+        record {
+          i = its.i;
+          value = its.value;
+          value_is = ap
+              (λ l. slice_get l its.i) are ∙ its.value_is;
+          place_is = in_file its.i k its.place_is;
+          comes = its.comes;
+        };
   }

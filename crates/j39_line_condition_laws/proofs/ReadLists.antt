@@ -1,6 +1,7 @@
 -- Lists that were read name alternatives of the choices that were read.
 use Rattle.std.specs.declared.alloc.Global.{Global}
-use Rattle.std.proofs.Common.{◌≡◌, ℕ, zero, suc, ◌<◌, List, [], ◌∷◌, ◌++◌, map, length, Option, Some, None, option_map, option_and_then, Vec, refl, sym, ap, subst, arith}
+use Rattle.std.proofs.Common.{◌≡◌, ℕ, zero, suc, ◌<◌, List, [], ◌∷◌, ◌++◌, map, length, Option, Some, None, option_map, option_and_then, Vec, refl, sym, ap}
+use Rattle.std.proofs.Common.{subst, arith}
 use Rattle.std.specs.Prelude.{position}
 use Rattle.std.specs.List.{slice_get}
 use Rattle.std.proofs.lemmas.Option.{same_Some, slice_get_within}
@@ -49,7 +50,8 @@ named_below choices label c p named = go (position (λ labels. is_label_among la
     its_choice q None none = cc
     its_choice q (Some r) same = ap (λ (pair : ℕ × ℕ). pair.0) (same_Some (q, r) (c, p) same)
 
-    within : (q : ℕ) (o : Option (List (List ℕ))) → slice_get choices q ≡ o → option_map (with_choice q) (option_and_then (λ labels. place_of labels label) o) ≡ Some (c, p)
+    within : (q : ℕ) (o : Option (List (List ℕ))) → slice_get choices q ≡ o → option_map (with_choice q) (option_and_then (λ labels. place_of labels label) o)
+        ≡ Some (c, p)
         → c < length choices
     within q None is none = cc
     within q (Some labels) is some =
@@ -61,7 +63,8 @@ named_below choices label c p named = go (position (λ labels. is_label_among la
     go None none = cc
     go (Some q) some = within q (slice_get choices q) refl some
 
-list_names : (choices : List (List (List ℕ))) (ds : Items) (list : List Alternative) → Each (NamesAlternative choices) ds list → NamesChoices (length choices) list
+list_names : (choices : List (List (List ℕ))) (ds : Items) (list : List Alternative) → Each (NamesAlternative choices) ds list
+    → NamesChoices (length choices) list
 list_names choices ds list all i a at =
     let (d, named) = each_at (NamesAlternative choices) ds list all i a at in
     named_below choices (label_text_in d) a.choice a.place named
@@ -78,7 +81,8 @@ unfolding others
 others_name choices n [] names i a at = absurd (no_value i a at)
 others_name choices n (b ∷ but) names i a at = subst (λ c. c < n) (sym (made_of _ i a at)) (names 0 b refl)
   where
-    made_of : (places : List ℕ) (k : ℕ) (x : Alternative) → slice_get (map (λ p. record { choice = b.choice; place = p }) places) k ≡ Some x → x.choice ≡ b.choice
+    made_of : (places : List ℕ) (k : ℕ) (x : Alternative) → slice_get (map (λ p. record { choice = b.choice; place = p }) places) k ≡ Some x
+        → x.choice ≡ b.choice
     made_of [] k x at_x = absurd (no_value k x at_x)
     made_of (p ∷ places) zero x at_x = sym (ap (λ (y : Alternative). y.choice) (same_Some _ x at_x))
     made_of (p ∷ places) (suc k) x at_x = made_of places k x at_x

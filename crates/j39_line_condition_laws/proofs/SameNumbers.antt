@@ -16,7 +16,8 @@ use Rattle.j39_variants.specs.declared.line.ProductLine.{ProductLine}
 use Rattle.j39_part_laws.specs.PlanParts.{IsGroupThere, IsPartAt, Places}
 use Rattle.j39_part_laws.proofs.Findings.{receivers_there, sends_there}
 use Rattle.j39_load.specs.LineLists.{lines_of_each}
-use Rattle.j39_line_findings.specs.Conditions.{Condition, conditions_of_groups, is_private, meets_any, meets_condition, sent_together, sent_with, sent_with_any, where_together}
+use Rattle.j39_line_findings.specs.Conditions.{Condition, conditions_of_groups, is_private, meets_any, meets_condition, sent_together, sent_with, sent_with_any}
+use Rattle.j39_line_findings.specs.Conditions.{where_together}
 use Rattle.j39_line_findings.specs.MissedNeeds.{is_group_there}
 use Rattle.j39_line_findings.specs.There.{is_flow_there}
 use Rattle.j39_line_findings.specs.declared.part.LinePart.TheVariants.{Group, Flow}
@@ -89,9 +90,11 @@ module _ (line : ProductLine) (v : List ℕ) (g h : ℕ) where
       some_of (meets_condition line v) (λ group. option_map_or (sent_together line g h group) (slice_get those h) []) (slice_get those g) its.group its.group_is
       (some_of (meets_condition line v) (sent_together line g h its.group) (slice_get those h) its.other its.other_is
       (at_passed (meets_condition line v) (sent_with_any line g h its.group its.other) line.plan.flows.items its.f its.flow its.flow_is
-      (if_of (meets_condition line v) (sends those its.group its.flow) (behind_first its.group its.other its.f its.flow) ((sending those its.group its.flow).1 its.sends_first)
+      (if_of (meets_condition line v) (sends those its.group its.flow) (behind_first its.group its.other its.f its.flow)
+      ((sending those its.group its.flow).1 its.sends_first)
       (at_passed (meets_condition line v) (sent_with line g h its.group its.other its.f its.flow) line.plan.flows.items its.k its.beside its.beside_is
-      (if_of (meets_condition line v) (sends_beside those its.group its.other its.flow its.beside) (where_together (Group g ∷ Group h ∷ Flow its.f ∷ Flow its.k ∷ []))
+      (if_of (meets_condition line v) (sends_beside those its.group its.other its.flow its.beside)
+      (where_together (Group g ∷ Group h ∷ Flow its.f ∷ Flow its.k ∷ []))
       ((sending_beside those its.group its.other its.flow its.beside).1 its.sends_second)
       (four_met line v (Group g) (Group h) (Flow its.f) (Flow its.k) its.group_there its.other_there its.flow_there its.beside_there))))))
 
@@ -179,7 +182,8 @@ module _ (line : ProductLine) (v : List ℕ) (plan : Plan) (is_plan : IsVariantP
   -- ---- and back
 
   pub there_same_pgn : (i j : ℕ) (g h : GroupPlan) → slice_get plan.groups.items i ≡ Some g → slice_get plan.groups.items j ≡ Some h
-      → Holds line.plan (SamePgn (p.group i) (p.group j)) → meets_any line v (conditions_of_groups line (p.group i) (p.group j)) ≡ true → Holds plan (SamePgn i j)
+      → Holds line.plan (SamePgn (p.group i) (p.group j)) → meets_any line v (conditions_of_groups line (p.group i) (p.group j)) ≡ true
+      → Holds plan (SamePgn i j)
   there_same_pgn i j g h at_g at_h holds = by (is_private line (p.group i) && is_private line (p.group j)) refl
     where
       found_with : (Also : GroupPlan → GroupPlan → Type 0)
@@ -202,7 +206,8 @@ module _ (line : ProductLine) (v : List ℕ) (plan : Plan) (is_plan : IsVariantP
         | inl private ↦ inr (inl (sym also.private ∙ sym (ap (λ b. b && y.private) private) ∙ either))
       ]
 
-      sent_both : (its : AreSentWith line v (p.group i) (p.group j)) → (x y : GroupPlan) → IsGroupThere g x → IsGroupThere h y → (x ≡ its.group) × (y ≡ its.other)
+      sent_both : (its : AreSentWith line v (p.group i) (p.group j)) → (x y : GroupPlan) → IsGroupThere g x → IsGroupThere h y → (x ≡ its.group)
+          × (y ≡ its.other)
           → (g.private ≡ false) ⊎ ((h.private ≡ false) ⊎ AreSentTogether plan.groups.items plan.flows.items g h)
       sent_both its x y same also (is_x, is_y) =
           let a = flow_place line v plan is_plan its.f its.flow_there in

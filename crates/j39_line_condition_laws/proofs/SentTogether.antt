@@ -18,7 +18,8 @@ use Rattle.j39_network.specs.declared.plan.group_plan.GroupPlan.{GroupPlan}
 
 -- ---- the tests decide
 
-group_of : {test : GroupPlan → Bool} (P : GroupPlan → Type 0) → ((g : GroupPlan) → Decides (test g) (P g)) → (gs : List GroupPlan) (i : ℕ) (o : Option GroupPlan)
+group_of : {test : GroupPlan → Bool} (P : GroupPlan → Type 0) → ((g : GroupPlan) → Decides (test g) (P g))
+    → (gs : List GroupPlan) (i : ℕ) (o : Option GroupPlan)
     → slice_get gs i ≡ o → Decides (is_group_of test o) (ValueAt P gs i)
 group_of P by gs i None is = (λ e. absurd (false≢true e), λ v. absurd (none-some _ (sym is ∙ v.value_is)))
 group_of P by gs i (Some g) is =

@@ -1,5 +1,6 @@
 -- Which conditions are met.
-use Rattle.std.proofs.Common.{◌≡◌, ℕ, zero, suc, ◌+◌, ◌<◌, Bool, true, false, ◌&&◌, ◌||◌, if◌then◌else◌, List, [], ◌∷◌, Option, Some, None, refl, sym, ◌∙◌, ap, subst, inl, inr, arith}
+use Rattle.std.proofs.Common.{◌≡◌, ℕ, zero, suc, ◌+◌, ◌<◌, Bool, true, false, ◌&&◌, ◌||◌, if◌then◌else◌, List, [], ◌∷◌, Option, Some, None, refl, sym, ◌∙◌, ap}
+use Rattle.std.proofs.Common.{subst, inl, inr, arith}
 use Rattle.std.specs.List.{list_any, range_with_len, slice_get}
 use Rattle.std.specs.Option.{option_map_or}
 use Rattle.std.proofs.lemmas.Bool.{and_from, and_parts, cases_Bool, false≢true, or_cases, or_left, or_right}
@@ -58,7 +59,8 @@ pub record IsPassedAt {X Y : Type 0} (test : Y → Bool) (report : ℕ → X →
   pub value_is : slice_get xs place ≡ Some value
   pub passes : list_any test (report place value) ≡ true
 
-pub passed_at : {X Y : Type 0} (test : Y → Bool) (report : ℕ → X → List Y) (xs : List X) → list_any test (lines_of_each report 0 xs) ≡ true → IsPassedAt test report xs
+pub passed_at : {X Y : Type 0} (test : Y → Bool) (report : ℕ → X → List Y) (xs : List X) → list_any test (lines_of_each report 0 xs) ≡ true
+    → IsPassedAt test report xs
 passed_at test report xs some =
     let its = any_line test report 0 xs some in
     let same : 0 + its.k ≡ its.k = omega arith in
@@ -138,7 +140,8 @@ module _ (line : ProductLine) (v : List ℕ) where
       let (first, rest) = and_parts (is_part_there line v p) (is_part_there line v q && true) (met_parts (p ∷ q ∷ []) met) in
       (first, (and_parts (is_part_there line v q) true rest).0)
 
-  pub four_met : (p q r s : LinePart) → is_part_there line v p ≡ true → is_part_there line v q ≡ true → is_part_there line v r ≡ true → is_part_there line v s ≡ true
+  pub four_met : (p q r s : LinePart) → is_part_there line v p ≡ true → is_part_there line v q ≡ true → is_part_there line v r ≡ true
+      → is_part_there line v s ≡ true
       → meets_any line v (where_together (p ∷ q ∷ r ∷ s ∷ [])) ≡ true
   four_met p q r s first second third fourth = parts_met (p ∷ q ∷ r ∷ s ∷ [])
       (and_from (is_part_there line v p) (are_there line v (q ∷ r ∷ s ∷ [])) first

@@ -52,7 +52,8 @@ module _ (units groups : List Bool) where
       let of_f = flow_parts f (place_at gs f.group) (place_at us f.sender) (moved_receivers us f.to) y sent in
       both _ _ _ _ (same_places groups f.group r.group y.group q.group of_f.group of_r.group)
       (both _ _ _ _ (ap not (same_places units f.sender r.sender y.sender q.sender of_f.sender of_r.sender))
-      (both _ _ _ _ (reached_same r.to q.to f.sender y.sender of_r.receivers of_f.sender) (reached_same f.to y.to r.sender q.sender of_f.receivers of_r.sender)))
+      (both _ _ _ _ (reached_same r.to q.to f.sender y.sender of_r.receivers of_f.sender)
+      (reached_same f.to y.to r.sender q.sender of_f.receivers of_r.sender)))
 
   from_same : (t s : Option ℕ) (i p : ℕ) → moved_from us t ≡ Some s → place_at us i ≡ Some p → is_from s p ≡ is_from t i
   from_same None s i p moved at = ap (λ x. is_from x p) (sym (same_Some None s moved))

@@ -1,6 +1,7 @@
 -- What is there in a variant is what its lists let in, where they name only choices of the line.
 use Rattle.std.specs.declared.alloc.Global.{Global}
-use Rattle.std.proofs.Common.{◌≡◌, ℕ, Bool, true, false, not, ◌&&◌, ◌==◌, nat_lt, List, [], ◌∷◌, Option, Some, None, Vec, length, inl, inr, refl, sym, ◌∙◌, ap, arith}
+use Rattle.std.proofs.Common.{◌≡◌, ℕ, Bool, true, false, not, ◌&&◌, ◌==◌, nat_lt, List, [], ◌∷◌, Option, Some, None, Vec, length, inl, inr, refl, sym, ◌∙◌, ap}
+use Rattle.std.proofs.Common.{arith}
 use Rattle.std.specs.List.{list_any, slice_get}
 use Rattle.std.specs.Option.{option_map_or}
 use Rattle.std.proofs.lemmas.Bool.{and_from, and_parts, cases_Bool, eq-eqb, eqb-true, false≢true, lt-ltb, ltb-true, or_cases, or_left, or_right}
@@ -20,7 +21,8 @@ use Rattle.j39_line_findings.specs.MissedNeeds.{is_group_there, is_in_at, is_uni
 use Rattle.j39_line_findings.specs.There.{is_receiver_there}
 use Rattle.j39_line_findings.specs.declared.part.LinePart.{LinePart}
 use Rattle.j39_line_findings.specs.declared.part.LinePart.TheVariants.{Unit as AUnit, Group, Flow, Need, Request}
-use Rattle.j39_line_findings.specs.KnownParts.{are_parts_known, do_all_let_in, is_group_known, is_list_known, is_list_known_at, is_part_known, is_receiver_known, is_unit_known}
+use Rattle.j39_line_findings.specs.KnownParts.{are_parts_known, do_all_let_in, is_group_known, is_list_known, is_list_known_at, is_part_known}
+use Rattle.j39_line_findings.specs.KnownParts.{is_receiver_known, is_unit_known}
 use Rattle.j39_line_findings.proofs.Tests.{all_at, at_all, at_any, any_at, value_inside}
 
 -- each alternative that the variant takes passes the test
@@ -91,7 +93,8 @@ module _ (line : ProductLine) (v : List ℕ) (is : IsVariant line.choices.items 
             let (one_choice, one_place) = and_parts (d.choice == a.choice) (d.place == p) its.passes in
             let choice : d.choice ≡ a.choice = eqb-true d.choice a.choice one_choice in
             let takes : takes_alternative v d ≡ true =
-            ap (λ o. option_map_or (λ place. place == d.place) o false) (ap (slice_get v) choice ∙ taken) ∙ eq-eqb p d.place (sym (eqb-true d.place p one_place)) in
+            ap (λ o. option_map_or (λ place. place == d.place) o false) (ap (slice_get v) choice ∙ taken) ∙ eq-eqb p d.place
+            (sym (eqb-true d.place p one_place)) in
             at_any (λ b. (b.choice == a.choice) && takes_alternative v b) list its.i d its.value_is
             (and_from (d.choice == a.choice) (takes_alternative v d) one_choice takes)
       ])
@@ -164,7 +167,8 @@ module _ (line : ProductLine) (v : List ℕ) (is : IsVariant line.choices.items 
       (slice_get line.plan.flows.items f)
   part_shown (Need d) = shown_some _ _ _ (λ (need : NeedPlan). shown_both _ _ _ _ _ _ (list_shown_at line.lists.needs.items d) (unit_shown need.unit))
       (slice_get line.plan.needs.items d)
-  part_shown (Request r) = shown_some _ _ _ (λ (request : RequestPlan). shown_named _ _ _ (list_shown_at line.lists.requests.items r) request.group request.sender request.to)
+  part_shown (Request r) = shown_some _ _ _ (λ (request : RequestPlan). shown_named _ _ _
+      (list_shown_at line.lists.requests.items r) request.group request.sender request.to)
       (slice_get line.plan.requests.items r)
 
   pub parts_shown : (parts : List LinePart) → IsShown (are_there line v parts) (are_parts_known line parts) (do_all_let_in line parts)

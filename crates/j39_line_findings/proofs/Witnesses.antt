@@ -1,5 +1,6 @@
 -- Findings are added one after the other, each with its best witness.
-use Rattle.std.proofs.Common.{◌≡◌, ℕ, zero, suc, ◌+◌, ◌<◌, ◌⊎◌, List, [], ◌∷◌, ◌++◌, true, false, inl, inr, drop, get_or, length, set, take, refl, sym, ap, subst, ◌∙◌, arith}
+use Rattle.std.proofs.Common.{◌≡◌, ℕ, zero, suc, ◌+◌, ◌<◌, ◌⊎◌, List, [], ◌∷◌, ◌++◌, true, false, inl, inr, drop, get_or, length, set, take, refl, sym, ap}
+use Rattle.std.proofs.Common.{subst, ◌∙◌, arith}
 use Rattle.std.proofs.lemmas.Bool.{cases_Bool, cases_lt, false≢true}
 use Rattle.std.proofs.lemmas.List.{drop_all, take-append-drop, take_more}
 use Rattle.std.proofs.Math.Seq.{drop-cons}
@@ -187,7 +188,8 @@ set_split (x ∷ xs) zero n below = refl
 set_split (x ∷ xs) (suc i) n below = ap (λ ys. x ∷ ys) (set_split xs i n (omega arith))
 
 -- those behind the first one of these come behind what comes before it
-pub behind_all : (xs ys : List Witnessed) (d n : Witnessed) → AreInOrder (xs ++ d ∷ ys) → IsReportedBefore n d → (w : Witnessed) → IsWitnessAmong (d ∷ ys) w → IsReportedBefore n w
+pub behind_all : (xs ys : List Witnessed) (d n : Witnessed) → AreInOrder (xs ++ d ∷ ys) → IsReportedBefore n d → (w : Witnessed) → IsWitnessAmong (d ∷ ys) w
+    → IsReportedBefore n w
 behind_all xs ys d n is before w (inl here) = subst (IsReportedBefore n) here before
 behind_all xs ys d n is before w (inr right) =
     below_through (rank_in n) (rank_in d) (rank_in w) before ((ordered_right xs (d ∷ ys) is).0 w right)
@@ -201,7 +203,8 @@ module _ (all reported : List Witnessed) (p : ℕ) (n : Witnessed) (is : AreBest
   best_split : (less : p < length reported) → AreBest all (take p reported ++ get_or reported p n ∷ drop (suc p) reported)
   best_split less = subst (AreBest all) (split less) is
 
-  pub insert_at : ((w : Witnessed) → IsWitnessAmong (take p reported) w → IsReportedBefore w n) → (p < length reported → IsReportedBefore n (get_or reported p n))
+  pub insert_at : ((w : Witnessed) → IsWitnessAmong (take p reported) w → IsReportedBefore w n)
+      → (p < length reported → IsReportedBefore n (get_or reported p n))
       → AreBest (all ++ n ∷ []) (insert reported p n)
   insert_at before next =
       let whole : AreBest all (take p reported ++ drop p reported) = subst (AreBest all) (sym (take-append-drop p reported)) is in

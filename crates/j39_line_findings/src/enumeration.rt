@@ -20,7 +20,8 @@ fn add_each(
     taken: &[usize],
     count: usize,
 ) -> Result<(), AllocError>
-    ensures { OnOk result (map (λ v. v.items) all.new.items ≡ map (λ v. v.items) all.old.items ++ with_each count taken.now) }
+    ensures { OnOk result (map (λ v. v.items) all.new.items ≡ map (λ v. v.items) all.old.items
+        ++ with_each count taken.now) }
 {
     for place in 0..count {
         all.push(with_place(alloc, taken, place)?)?;

@@ -1,6 +1,7 @@
 //! Ends of flows, and who is planned at their addresses.
 ghost use Rattle.std.specs.Prelude.{◌≡◌};
-ghost use Rattle.j39_line_findings.specs.FlowEnds.{are_at_one_address, are_ends_in_pool, has_end_in_pool, has_pool_address};
+ghost use Rattle.j39_line_findings.specs.FlowEnds.{are_at_one_address, are_ends_in_pool, has_end_in_pool};
+ghost use Rattle.j39_line_findings.specs.FlowEnds.{has_pool_address};
 ghost use Rattle.j39_line_findings.specs.FlowEnds.{is_end, is_end_in_pool};
 
 use j39_id::addresses::is_in_pool;

@@ -73,8 +73,8 @@ impl VariantAnswer {
         })
     }
 
-    /// What is wrong with the plan of the variant of which this is known, at its places in the file, and each need that is
-    /// asked for and isn't in it.
+    /// What is wrong with the plan of the variant of which this is known, at its places in the file, and each need that
+    /// is asked for and isn't in it.
     pub fn findings(
         &self,
         alloc: Global,

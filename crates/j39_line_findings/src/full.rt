@@ -2,12 +2,14 @@
 ghost use Rattle.std.specs.Prelude.{◌≡◌, ◌∷◌, [], IfOk, length, map};
 ghost use Rattle.std.specs.List.{list_all, range_with_len};
 ghost use Rattle.j39_load.specs.LineLists.{lines_of_each};
-ghost use Rattle.j39_line_findings.specs.FullVariants.{AreFullAlternatives, agree_on_answer, agree_on_answers, agree_on_flow};
+ghost use Rattle.j39_line_findings.specs.FullVariants.{AreFullAlternatives, agree_on_answer, agree_on_answers};
+ghost use Rattle.j39_line_findings.specs.FullVariants.{agree_on_flow};
 ghost use Rattle.j39_line_findings.specs.FullVariants.{agree_on_flows, agree_on_need};
 ghost use Rattle.j39_line_findings.specs.FullVariants.{agree_on_sending, alternatives_of, alternatives_of_choice};
 ghost use Rattle.j39_line_findings.specs.Boxes.{are_one_answer};
 ghost use Rattle.j39_line_findings.specs.FullVariants.{compared, do_keep, does_bring, does_leave, does_need_let_in};
-ghost use Rattle.j39_line_findings.specs.FullVariants.{full_alternatives, full_among, full_of_need, is_covered, is_covered_for};
+ghost use Rattle.j39_line_findings.specs.FullVariants.{full_alternatives, full_among, full_of_need, is_covered};
+ghost use Rattle.j39_line_findings.specs.FullVariants.{is_covered_for};
 ghost use Rattle.j39_line_findings.specs.FullVariants.{is_full_among, line_with, nevers_with};
 
 use crate::part::{
@@ -121,7 +123,8 @@ struct Comparing<'a> {
 
 impl Comparing<'_> {
     fn agree_on_answer(&self, place: usize, flow: &FlowPlan, asked: usize) -> bool
-        ensures { result ≡ agree_on_answer self.now.line.now self.now.alternatives.now self.now.need self.now.one.now self.now.other.now place flow.now asked }
+        ensures { result
+            ≡ agree_on_answer self.now.line.now self.now.alternatives.now self.now.need self.now.one.now self.now.other.now place flow.now asked }
     {
         match self.line.plan.requests.get(asked) {
             Some(request) => {
@@ -146,13 +149,15 @@ impl Comparing<'_> {
 
     #[tactic(auto, unfolding(crate::specs::FullVariants::agree_on_answers))]
     fn agree_on_answers(&self, place: usize, flow: &FlowPlan) -> bool
-        ensures { result ≡ agree_on_answers self.now.line.now self.now.alternatives.now self.now.need self.now.one.now self.now.other.now place flow.now }
+        ensures { result
+            ≡ agree_on_answers self.now.line.now self.now.alternatives.now self.now.need self.now.one.now self.now.other.now place flow.now }
     {
         (0..self.line.plan.requests.len()).all(|asked| self.agree_on_answer(place, flow, asked))
     }
 
     fn agree_on_sending(&self, place: usize) -> bool
-        ensures { result ≡ agree_on_sending self.now.line.now self.now.alternatives.now self.now.need self.now.one.now self.now.other.now place }
+        ensures { result
+            ≡ agree_on_sending self.now.line.now self.now.alternatives.now self.now.need self.now.one.now self.now.other.now place }
     {
         !do_meet(
             self.line,
@@ -167,7 +172,8 @@ impl Comparing<'_> {
     }
 
     fn agree_on_flow(&self, need: &NeedPlan, place: usize) -> bool
-        ensures { result ≡ agree_on_flow self.now.line.now self.now.alternatives.now self.now.need self.now.one.now self.now.other.now need.now place }
+        ensures { result
+            ≡ agree_on_flow self.now.line.now self.now.alternatives.now self.now.need self.now.one.now self.now.other.now need.now place }
     {
         match self.line.plan.flows.get(place) {
             Some(flow) => {
@@ -185,14 +191,16 @@ impl Comparing<'_> {
 
     #[tactic(auto, unfolding(crate::specs::FullVariants::agree_on_flows))]
     fn agree_on_flows(&self, need: &NeedPlan) -> bool
-        ensures { result ≡ agree_on_flows self.now.line.now self.now.alternatives.now self.now.need self.now.one.now self.now.other.now need.now }
+        ensures { result
+            ≡ agree_on_flows self.now.line.now self.now.alternatives.now self.now.need self.now.one.now self.now.other.now need.now }
     {
         (0..self.line.plan.flows.len()).all(|place| self.agree_on_flow(need, place))
     }
 
     #[tactic(auto, unfolding(crate::specs::FullVariants::agree_on_need))]
     fn agree(&self) -> bool
-        ensures { result ≡ agree_on_need self.now.line.now self.now.alternatives.now self.now.need self.now.one.now self.now.other.now }
+        ensures { result
+            ≡ agree_on_need self.now.line.now self.now.alternatives.now self.now.need self.now.one.now self.now.other.now }
     {
         match self.line.plan.needs.get(self.need) {
             Some(need) => self.agree_on_flows(need),

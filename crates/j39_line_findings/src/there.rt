@@ -2,7 +2,8 @@
 ghost use Rattle.std.specs.Prelude.{◌≡◌, IfOk};
 ghost use Rattle.j39_line_findings.specs.Conditions.{is_part_there};
 ghost use Rattle.j39_line_findings.specs.There.{IsWhatIsThere, is_flow_there, is_need_there, is_receiver_there};
-ghost use Rattle.j39_line_findings.specs.There.{is_kind_there, is_request_there, missed_needs, place_in_file, places_of_those};
+ghost use Rattle.j39_line_findings.specs.There.{is_kind_there, is_request_there, missed_needs, place_in_file};
+ghost use Rattle.j39_line_findings.specs.There.{places_of_those};
 
 use crate::missed_needs::{
     is_group_there, is_in_at, is_need_asked_for, is_need_missed, is_source_there, is_unit_there,

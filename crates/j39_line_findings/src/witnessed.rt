@@ -43,7 +43,8 @@ fn comes_before(one: &Witnessed, rank: Rank) -> bool
 fn place_of(reported: &[Witnessed], rank: Rank) -> usize
     ensures inside { result ≤ length reported.now }
     ensures before { (w : Witnesses) → IsWitnessAmong (take result reported.now) w → is_below (rank_in w) rank ≡ true }
-    ensures behind { (d : Witnesses) → result < length reported.now → is_below (rank_in (slice_index_or reported.now result d)) rank ≡ false }
+    ensures behind { (d : Witnesses) → result < length reported.now
+        → is_below (rank_in (slice_index_or reported.now result d)) rank ≡ false }
 {
     for (place, other) in reported.iter().enumerate() {
         if !comes_before(other, rank) {
@@ -55,9 +56,11 @@ fn place_of(reported: &[Witnessed], rank: Rank) -> usize
 
 // Whether one of a rank comes before the one that is reported at a place, or none is reported there.
 fn is_next(reported: &[Witnessed], place: usize, rank: Rank) -> bool
-    ensures free { (d : Witnesses) → result ≡ true → place < length reported.now → is_below rank (rank_in (slice_index_or reported.now place d)) ≡ true }
+    ensures free { (d : Witnesses) → result ≡ true → place < length reported.now
+        → is_below rank (rank_in (slice_index_or reported.now place d)) ≡ true }
     ensures inside { result ≡ false → place < length reported.now }
-    ensures taken { (d : Witnesses) → result ≡ false → is_below rank (rank_in (slice_index_or reported.now place d)) ≡ false }
+    ensures taken { (d : Witnesses) → result ≡ false → is_below rank (rank_in (slice_index_or reported.now place d))
+        ≡ false }
 {
     match reported.get(place) {
         Some(other) => is_below(rank, other.finding.rank()),
@@ -82,7 +85,8 @@ fn replace(reported: &mut Vec<Witnessed>, place: usize, new: Witnessed)
 
 /// Adds a finding of a variant to those that are reported: each once, with its best witness.
 pub fn add(reported: &mut Vec<Witnessed>, new: Witnessed) -> Result<(), AllocError>
-    ensures { OnOk result ((all : List Witnesses) → AreBest all reported.old.items → AreBest (all ++ new ∷ []) reported.new.items) }
+    ensures { OnOk result ((all : List Witnesses) → AreBest all reported.old.items
+        → AreBest (all ++ new ∷ []) reported.new.items) }
 {
     let place = place_of(reported, new.finding.rank());
     if is_next(reported, place, new.finding.rank()) {

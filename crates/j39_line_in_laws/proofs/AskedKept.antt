@@ -1,5 +1,6 @@
 -- A flow that is asked for too often in a variant is in another one that takes what is reported of it: the same requests ask for it there.
-use Rattle.std.proofs.Common.{◌≡◌, ℕ, ◌+◌, zero, suc, ◌&&◌, ◌||◌, Bool, true, false, if◌then◌else◌, List, [], ◌∷◌, ◌++◌, Contains, length, Option, Some, None, is_some, option_map, refl, sym, ◌∙◌, ap, subst, inl, inr, arith}
+use Rattle.std.proofs.Common.{◌≡◌, ℕ, ◌+◌, zero, suc, ◌&&◌, ◌||◌, Bool, true, false, if◌then◌else◌, List, [], ◌∷◌, ◌++◌, Contains, length, Option, Some, None}
+use Rattle.std.proofs.Common.{is_some, option_map, refl, sym, ◌∙◌, ap, subst, inl, inr, arith}
 use Rattle.std.specs.List.{cons_option, filter_map, slice_get}
 use Rattle.std.specs.Option.{option_map_or, option_to_list}
 use Rattle.std.proofs.lemmas.Bool.{and_from, and_parts}
@@ -19,7 +20,8 @@ use Rattle.j39_network.specs.declared.plan.Plan.{Plan}
 use Rattle.j39_network.specs.declared.plan.flow_plan.FlowPlan.{FlowPlan}
 use Rattle.j39_network.specs.declared.plan.request_plan.RequestPlan.{RequestPlan}
 use Rattle.j39_network.specs.declared.plan.timing.Timing.{Timing}
-use Rattle.j39_variants.specs.VariantPlans.{flag_at, flags, group_places, IsVariantPlan, moved_flow, moved_receivers, moved_request, picked, place_at, unit_places}
+use Rattle.j39_variants.specs.VariantPlans.{flag_at, flags, group_places, IsVariantPlan, moved_flow, moved_receivers, moved_request, picked, place_at}
+use Rattle.j39_variants.specs.VariantPlans.{unit_places}
 use Rattle.j39_variants.specs.Variants.{is_in}
 use Rattle.j39_variants.specs.declared.line.ProductLine.{ProductLine}
 use Rattle.j39_line_findings.specs.Boxes.{part_lets_in}
@@ -75,11 +77,13 @@ module _ {X Y : Type 0} (moved : X → Option Y) (every : X → Option ℕ) (her
   all_in_file (b ∷ bs) [] n long tests = absurd (omega (arith, long))
   all_in_file [] (x ∷ xs) n long tests = absurd (omega (arith, long))
   all_in_file (b ∷ bs) (x ∷ xs) n long tests =
-      one_in_file b x bs xs n (moved x) refl (ap test (let e : n ≡ n + 0 = omega arith in e) ∙ tests 0 x refl) (lines_of_each (period_where test every) (n + 1) xs)
+      one_in_file b x bs xs n (moved x) refl (ap test (let e : n ≡ n + 0 = omega arith in e) ∙ tests 0 x refl)
+      (lines_of_each (period_where test every) (n + 1) xs)
       (all_in_file bs xs (n + 1) (omega (arith, long))
       (λ k y at. ap test (let e : n + 1 + k ≡ n + suc k = omega arith in e) ∙ tests (suc k) y at))
 
-each_alike : {X : Type 0} (report other : ℕ → X → List ℕ) (n : ℕ) (xs : List X) → ((k : ℕ) (x : X) → slice_get xs k ≡ Some x → report (n + k) x ≡ other (n + k) x)
+each_alike : {X : Type 0} (report other : ℕ → X → List ℕ) (n : ℕ) (xs : List X)
+    → ((k : ℕ) (x : X) → slice_get xs k ≡ Some x → report (n + k) x ≡ other (n + k) x)
     → lines_of_each report n xs ≡ lines_of_each other n xs
 unfolding lines_of_each
 each_alike report other n [] same = refl
@@ -97,14 +101,16 @@ module _ (line : ProductLine) (x : List ℕ) (plan : Plan) (is : IsVariantPlan l
 
   same_period : (r q : RequestPlan) → moved_here r ≡ Some q → asked_every y q ≡ asked_every flow r
   same_period r q moved =
-      let its = request_of r (place_at (group_places line x) r.group) (place_at (unit_places line x) r.sender) (moved_receivers (unit_places line x) r.to) q moved in
+      let its = request_of r (place_at (group_places line x) r.group) (place_at (unit_places line x) r.sender)
+      (moved_receivers (unit_places line x) r.to) q moved in
       ap (λ b. if b then q.period else None) (serves_same (flags x line.lists.units.items) (flags x line.lists.groups.items) r q flow y moved comes)
       ∙ ap (λ o. if serves r flow then o else None) (sym its.period)
 
   asked_here : asking_periods plan.requests.items y ≡ lines_of_each (period_where (is_request_there line x) (asked_every flow)) 0 line.plan.requests.items
   asked_here =
       ap (λ l. asking_periods l y) is.has_requests
-      ∙ all_in_file moved_here (asked_every flow) (asked_every y) same_period (is_request_there line x) (flags x line.lists.requests.items) line.plan.requests.items 0
+      ∙ all_in_file moved_here (asked_every flow) (asked_every y) same_period (is_request_there line x)
+      (flags x line.lists.requests.items) line.plan.requests.items 0
       (length-map line.lists.requests.items (λ list. is_in x list.items) ∙ line.request_lists)
       (λ k r at. ap (is_request_there line x) (let e : 0 + k ≡ k = omega arith in e) ∙ request_test line x k r at)
 
@@ -125,7 +131,8 @@ module _ (line : ProductLine) (w v : List ℕ) (two : AreTwo line w v) (f : ℕ)
   asking_among : (r : ℕ) (request : RequestPlan) → slice_get line.plan.requests.items r ≡ Some request → is_some (asked_every flow request) ≡ true
       → AreAmong line (Request r ∷ []) (parts_of_asked line f)
   asking_among r request at_r asks a all =
-      let rest = (and_parts (part_lets_in line a (Flow f)) (do_all_let_in line (option_map_or (asking_parts line) (slice_get line.plan.flows.items f) []) a) all).1 in
+      let rest = (and_parts (part_lets_in line a (Flow f)) (do_all_let_in line
+      (option_map_or (asking_parts line) (slice_get line.plan.flows.items f) []) a) all).1 in
       let here : 0 + r ≡ r = omega arith in
       subst (λ b. do_all_let_in line (if b then Request r ∷ [] else []) a ≡ true) asks
       (subst (λ n. do_all_let_in line (asking_part flow n request) a ≡ true) here
@@ -156,19 +163,24 @@ module _ (line : ProductLine) (w v : List ℕ) (two : AreTwo line w v) (f : ℕ)
 
   same_periods : lines_of_each (period_where (is_request_there line w) (asked_every flow)) 0 line.plan.requests.items
       ≡ lines_of_each (period_where (is_request_there line v) (asked_every flow)) 0 line.plan.requests.items
-  same_periods = each_alike (period_where (is_request_there line w) (asked_every flow)) (period_where (is_request_there line v) (asked_every flow)) 0 line.plan.requests.items
+  same_periods = each_alike (period_where (is_request_there line w) (asked_every flow))
+      (period_where (is_request_there line v) (asked_every flow)) 0 line.plan.requests.items
       (λ k request at.
       let here : 0 + k ≡ k = omega arith in
-      subst (λ n. period_where (is_request_there line w) (asked_every flow) n request ≡ period_where (is_request_there line v) (asked_every flow) n request) (sym here)
+      subst (λ n. period_where (is_request_there line w) (asked_every flow) n request ≡ period_where (is_request_there line v) (asked_every flow) n request)
+      (sym here)
       (period_kept k request at))
 
   module _ (plan other : Plan) (is : IsVariantPlan line w plan) (also : IsVariantPlan line v other) (y z : FlowPlan)
-      (comes : moved_flow (unit_places line w) (group_places line w) flow ≡ Some y) (goes : moved_flow (unit_places line v) (group_places line v) flow ≡ Some z) where
+      (comes : moved_flow (unit_places line w) (group_places line w) flow ≡ Some y)
+      (goes : moved_flow (unit_places line v) (group_places line v) flow ≡ Some z) where
     pub too_often_kept : is_asked_too_often plan.requests.items y ≡ true → is_asked_too_often other.requests.items z ≡ true
     too_often_kept too_often =
         let asked = asked_more plan.requests.items y too_often in
-        let of_y = flow_of flow (place_at (group_places line w) flow.group) (place_at (unit_places line w) flow.sender) (moved_receivers (unit_places line w) flow.to) y comes in
-        let of_z = flow_of flow (place_at (group_places line v) flow.group) (place_at (unit_places line v) flow.sender) (moved_receivers (unit_places line v) flow.to) z goes in
+        let of_y = flow_of flow (place_at (group_places line w) flow.group) (place_at (unit_places line w) flow.sender)
+        (moved_receivers (unit_places line w) flow.to) y comes in
+        let of_z = flow_of flow (place_at (group_places line v) flow.group) (place_at (unit_places line v) flow.sender)
+        (moved_receivers (unit_places line v) flow.to) z goes in
         let periods : asking_periods plan.requests.items y ≡ asking_periods other.requests.items z =
         asked_here line w plan is flow y comes ∙ same_periods ∙ sym (asked_here line v other also flow z goes) in
         answering_more other.requests.items z asked.pace (sym of_z.on_request ∙ of_y.on_request ∙ asked.answers) (sym of_z.pace ∙ of_y.pace ∙ asked.paced)
@@ -201,7 +213,8 @@ module _ (plan : Plan) (others : List LoadFinding) where
     asked_found = by_found plan.timing are
 
 pub asked_kept : (line : ProductLine) (w v : List ℕ) → AreTwo line w v → (f : ℕ) → Agree (choices_of_parts line (parts_of_asked line f)) w v
-    → (findings : List LineFinding) → AreVariantFindings line w findings → IsFound findings (OfLoad (AskedTooOften f)) → HasInAll line v (OfLoad (AskedTooOften f))
+    → (findings : List LineFinding) → AreVariantFindings line w findings → IsFound findings (OfLoad (AskedTooOften f))
+    → HasInAll line v (OfLoad (AskedTooOften f))
 asked_kept line w v two f agree findings are one others has =
     let (finding, among, is) = in_load line w findings are (AskedTooOften f) one in go finding among is
   where
@@ -211,7 +224,8 @@ asked_kept line w v two f agree findings are one others has =
         let its = (are_flows line w are.plan are.is_plan are.there are.is_there).from i y at_i in
         let is_f : its.k ≡ f = sym its.place_is ∙ place in
         let at_f : slice_get line.plan.flows.items f ≡ Some its.value = ap (slice_get line.plan.flows.items) (sym is_f) ∙ its.value_is in
-        let there : is_flow_there line v f ≡ true = flow_kept line w v two f agree its.value at_f (subst (λ k. is_flow_there line w k ≡ true) is_f its.is_there) in
+        let there : is_flow_there line v f ≡ true = flow_kept line w v two f agree its.value at_f
+        (subst (λ k. is_flow_there line w k ≡ true) is_f its.is_there) in
         let goes = (are_flows line v has.plan has.is_plan has.there has.is_there).into f its.value at_f there in
         let too_often_there = too_often_kept line w v two f agree its.value at_f are.plan has.plan are.is_plan has.is_plan y goes.value its.comes goes.comes too_often in
         let timed_there : is_some has.plan.timing ≡ true = ap is_some (has.is_plan.has_timing ∙ sym are.is_plan.has_timing) ∙ timed in

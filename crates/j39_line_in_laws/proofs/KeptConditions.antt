@@ -1,5 +1,6 @@
 -- A variant that takes the same as another one of each choice that counts in a condition meets it if the other one does.
-use Rattle.std.proofs.Common.{◌≡◌, ℕ, zero, suc, ◌+◌, ◌<◌, Bool, true, false, not, ◌&&◌, ◌||◌, if◌then◌else◌, List, [], ◌∷◌, ◌++◌, length, map, Some, unwrap_or, refl, sym, ◌∙◌, ap, subst, inl, inr, arith}
+use Rattle.std.proofs.Common.{◌≡◌, ℕ, zero, suc, ◌+◌, ◌<◌, Bool, true, false, not, ◌&&◌, ◌||◌, if◌then◌else◌, List, [], ◌∷◌, ◌++◌, length, map, Some, unwrap_or}
+use Rattle.std.proofs.Common.{refl, sym, ◌∙◌, ap, subst, inl, inr, arith}
 use Rattle.std.specs.List.{list_all, list_any, range_with_len, slice_get}
 use Rattle.std.proofs.lemmas.Bool.{and_from, and_parts, cases_Bool, false≢true, not-true, not_from_false, or_cases, or_parts, true≢false}
 use Rattle.std.proofs.lemmas.List.Folds.{list_all-append, list_any-append}
@@ -21,7 +22,8 @@ use Rattle.j39_line_findings.proofs.EveryVariant.{Fits, fits_from}
 use Rattle.j39_line_findings.proofs.Shown.{Passes, parts_shown}
 use Rattle.j39_line_findings.proofs.Tests.{any_at, at_any}
 use Rattle.j39_line_witnesses.specs.PartBoxes.{flags_by, flags_of_choice, parts_box}
-use Rattle.j39_line_witnesses.specs.ReportedChoices.{choices_by, choices_if_met, choices_met, choices_of_condition, choices_of_parts, counted_parts, counted_with, is_in_some, is_none, lacking_choices}
+use Rattle.j39_line_witnesses.specs.ReportedChoices.{choices_by, choices_if_met, choices_met, choices_of_condition, choices_of_parts, counted_parts}
+use Rattle.j39_line_witnesses.specs.ReportedChoices.{counted_with, is_in_some, is_none, lacking_choices}
 use Rattle.j39_line_witnesses.proofs.Within.{passing_is_within}
 use Rattle.j39_line_condition_laws.proofs.Tests.{of_if}
 
@@ -44,7 +46,8 @@ module _ (test : Alternative → Bool) where
   abbrev flags_from : ℕ → List Choice → List (List Bool)
   flags_from n choices = lines_of_each (λ c choice. flags_of_choice test c choice ∷ []) n choices
 
-  unlacking_from : (n : ℕ) (cs : List Choice) (v : List ℕ) → Fits cs v → (c k : ℕ) → slice_get v c ≡ Some k → flag_at (lacking_choices (flags_from n cs)) c ≡ false
+  unlacking_from : (n : ℕ) (cs : List Choice) (v : List ℕ) → Fits cs v → (c k : ℕ) → slice_get v c ≡ Some k
+      → flag_at (lacking_choices (flags_from n cs)) c ≡ false
       → test (alternative_at (n + c) k) ≡ true
   unfolding lines_of_each
   unlacking_from n [] [] fits c k at none = absurd (none-some k at)
@@ -135,7 +138,8 @@ module _ (line : ProductLine) (condition : Condition) where
   abbrev others : List LinePart
   others = lines_of_each (λ _ parts. counted_with line together parts) 0 condition.lacking
 
-  both : (a : Alternative) → do_all_let_in line (counted_parts line condition) a ≡ true → (do_all_let_in line together a ≡ true) × (do_all_let_in line others a ≡ true)
+  both : (a : Alternative) → do_all_let_in line (counted_parts line condition) a ≡ true → (do_all_let_in line together a ≡ true)
+      × (do_all_let_in line others a ≡ true)
   both a all = and_parts (do_all_let_in line together a) (do_all_let_in line others a) (sym (list_all-append (part_lets_in line a) together others) ∙ all)
 
   together_among : AreAmong line together (counted_parts line condition)
@@ -184,18 +188,21 @@ record IsMet (line : ProductLine) (w : List ℕ) (conditions : List Condition) :
 
 -- the first of them
 first_met : (line : ProductLine) (w : List ℕ) (n : ℕ) (conditions : List Condition) → meets_any line w conditions ≡ true
-    → (its : IsMet line w conditions) × (slice_get (lines_of_each (λ _ condition. choices_if_met line w condition) n conditions) 0 ≡ Some (choices_of_condition line its.condition))
+    → (its : IsMet line w conditions) × (slice_get (lines_of_each (λ _ condition. choices_if_met line w condition) n conditions) 0 ≡ Some
+    (choices_of_condition line its.condition))
 unfolding lines_of_each
 first_met line w n [] met = absurd (false≢true met)
 first_met line w n (x ∷ xs) met = elim (cases_Bool (meets_condition line w x)) [
   | inl meets ↦ (
     record { i = 0; condition = x; stands = refl; meets = meets },
-    ap (λ b. slice_get ((if b then choices_of_condition line x ∷ [] else []) ++ lines_of_each (λ _ condition. choices_if_met line w condition) (n + 1) xs) 0) meets,
+    ap (λ b. slice_get ((if b then choices_of_condition line x ∷ [] else []) ++ lines_of_each (λ _ condition. choices_if_met line w condition)
+        (n + 1) xs) 0) meets,
   )
   | inr fails ↦
       let (its, is) = first_met line w (n + 1) xs (sym (ap (λ b. b || meets_any line w xs) fails) ∙ met) in (
         record { i = suc its.i; condition = its.condition; stands = its.stands; meets = its.meets },
-        ap (λ b. slice_get ((if b then choices_of_condition line x ∷ [] else []) ++ lines_of_each (λ _ condition. choices_if_met line w condition) (n + 1) xs) 0) fails ∙ is,
+        ap (λ b. slice_get ((if b then choices_of_condition line x ∷ [] else []) ++ lines_of_each (λ _ condition. choices_if_met line w condition)
+            (n + 1) xs) 0) fails ∙ is,
       )
 ]
 

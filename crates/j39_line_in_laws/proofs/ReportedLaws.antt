@@ -14,7 +14,8 @@ use Rattle.j39_line_condition_laws.specs.ByConditions.{MayBeFound}
 use Rattle.j39_line_in_laws.proofs.AskedKept.{asked_kept}
 use Rattle.j39_line_in_laws.proofs.KeptConditions.{Agree, AreTwo, kept_any}
 use Rattle.j39_line_in_laws.proofs.TakenReported.{agreed, all_agreed, own_taken}
-use Rattle.j39_line_in_laws.specs.ReportedConditions.{HasFound, is_of_requests, TakesWhatIsReported, ReportedIsCondition, ReportedIsHad, ReportedLeads, ReportedMayBeAll}
+use Rattle.j39_line_in_laws.specs.ReportedConditions.{HasFound, is_of_requests, TakesWhatIsReported, ReportedIsCondition, ReportedIsHad, ReportedLeads}
+use Rattle.j39_line_in_laws.specs.ReportedConditions.{ReportedMayBeAll}
 
 -- ---- by conditions
 
@@ -62,11 +63,14 @@ had_met line finding goes w findings are (inr one) = (found_by_conditions line w
 
 -- of one that counts what is there the witness alone takes what is reported, or the same requests ask for the flow
 counted_had : (line : ProductLine) (finding : LineFinding) (w v : List ℕ) → TakesWhatIsReported line finding w v
-    → (findings : List LineFinding) → AreVariantFindings line w findings → HasFound line w finding → goes_by_conditions line finding ≡ false → HasFound line v finding
+    → (findings : List LineFinding) → AreVariantFindings line w findings → HasFound line w finding → goes_by_conditions line finding ≡ false
+    → HasFound line v finding
 counted_had line (OfLoad (AskedTooOften f)) w v takes findings are (inl in_all) counts =
-    inl (asked_kept line w v (two_of line (OfLoad (AskedTooOften f)) w v takes) f (counted line (OfLoad (AskedTooOften f)) counts w v takes) findings are (in_all findings are))
+    inl (asked_kept line w v (two_of line (OfLoad (AskedTooOften f)) w v takes) f (counted line (OfLoad (AskedTooOften f)) counts w v takes) findings are
+    (in_all findings are))
 counted_had line (OfLoad (AskedTooOften f)) w v takes findings are (inr one) counts =
-    inl (asked_kept line w v (two_of line (OfLoad (AskedTooOften f)) w v takes) f (counted line (OfLoad (AskedTooOften f)) counts w v takes) one.findings one.are_findings one.one)
+    inl (asked_kept line w v (two_of line (OfLoad (AskedTooOften f)) w v takes) f
+    (counted line (OfLoad (AskedTooOften f)) counts w v takes) one.findings one.are_findings one.one)
 counted_had line (OfPlan x) w v takes findings are has counts =
     subst (λ y. HasFound line y (OfPlan x)) (sym (reported_may_be_all line (OfPlan x) counts refl w v takes)) has
 counted_had line (OfLoad (NoPeriod f)) w v takes findings are has counts = absurd (true≢false counts)
@@ -96,11 +100,13 @@ pub reported_leads : ReportedLeads
 reported_leads line finding whole w possible first = record {
   is_taking = record { is_variant = possible.is_variant; possible = possible.possible; takes_these = own_taken (reported_choices line w finding) w };
   first = λ v taking earlier.
-      let takes : TakesWhatIsReported line finding w v = record { is_witness = possible.is_variant; is_variant = taking.is_variant; takes = taking.takes_these } in
+      let takes : TakesWhatIsReported line finding w v = record
+      { is_witness = possible.is_variant; is_variant = taking.is_variant; takes = taking.takes_these } in
       elim (cases_Bool (goes_by_conditions line finding)) [
         | inl goes ↦
             let its = first goes in
-            its.first v (record { is_variant = taking.is_variant; possible = taking.possible }) (reported_is_condition line finding goes w v takes its.meets) earlier
+            its.first v (record { is_variant = taking.is_variant; possible = taking.possible })
+            (reported_is_condition line finding goes w v takes its.meets) earlier
         | inr counts ↦ not_earlier w (subst (λ x. IsEarlier x w) (reported_may_be_all line finding counts whole w v takes) earlier)
       ];
 }

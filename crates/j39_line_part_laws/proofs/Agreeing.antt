@@ -1,5 +1,6 @@
 -- To agree on what brings what is needed is transitive, and each alternative agrees with itself.
-use Rattle.std.proofs.Common.{◌≡◌, ℕ, zero, suc, ◌+◌, ◌<◌, Bool, true, false, not, ◌&&◌, ◌||◌, if◌then◌else◌, List, [], ◌∷◌, length, Option, Some, None, refl, sym, ◌∙◌, ap, arith}
+use Rattle.std.proofs.Common.{◌≡◌, ℕ, zero, suc, ◌+◌, ◌<◌, Bool, true, false, not, ◌&&◌, ◌||◌, if◌then◌else◌, List, [], ◌∷◌, length, Option, Some, None, refl}
+use Rattle.std.proofs.Common.{sym, ◌∙◌, ap, arith}
 use Rattle.std.specs.List.{list_all, range_with_len, slice_get}
 use Rattle.std.specs.Option.{option_map_or}
 use Rattle.std.proofs.lemmas.Bool.{and_from, and_parts, false≢true}
@@ -45,7 +46,8 @@ if-refl : (b p q : Bool) → p ≡ true → q ≡ true → (if b then p else q) 
 if-refl true p q first second = first
 if-refl false p q first second = second
 
-if-lift : (b p q r s t u : Bool) → (p ≡ true → q ≡ true → r ≡ true) → (s ≡ true → t ≡ true → u ≡ true) → (if b then p else s) ≡ true → (if b then q else t) ≡ true
+if-lift : (b p q r s t u : Bool) → (p ≡ true → q ≡ true → r ≡ true) → (s ≡ true → t ≡ true → u ≡ true) → (if b then p else s) ≡ true
+    → (if b then q else t) ≡ true
     → (if b then r else u) ≡ true
 if-lift true p q r s t u leads others one two = leads one two
 if-lift false p q r s t u leads others one two = others one two
@@ -120,7 +122,8 @@ module _ (line : ProductLine) (alternatives : List Alternative) (d : ℕ) where
   -- ---- and with those with which one agrees with which it agrees
 
   module _ (a b c : Alternative) where
-    answer-trans : (f : ℕ) (flow : FlowPlan) (r : ℕ) → agree_on_answer line alternatives d a b f flow r ≡ true → agree_on_answer line alternatives d b c f flow r ≡ true
+    answer-trans : (f : ℕ) (flow : FlowPlan) (r : ℕ) → agree_on_answer line alternatives d a b f flow r ≡ true
+        → agree_on_answer line alternatives d b c f flow r ≡ true
         → agree_on_answer line alternatives d a c f flow r ≡ true
     answer-trans f flow r = option-lift (answers a b f flow r) (answers b c f flow r) (answers a c f flow r)
         (λ request. or-lift (not (serves request flow)) _ _ _ (or-lift (not (do_meet line alternatives (Need d) (Flow f) (Request r))) _ _ _
@@ -164,12 +167,14 @@ module _ (line : ProductLine) (alternatives : List Alternative) (d : ℕ) where
         let flows = sym (ap (λ o. option_map_or (agree_on_flows line alternatives d a b) o true) at_d) ∙ agree in
         let of_flow = all_in_range (agree_on_flow line alternatives d a b need) (length line.plan.flows.items) f below flows in
         let its = sym (ap (λ o. option_map_or (brings a b need f) o true) at_f) ∙ of_flow in
-        sym (ap (λ t. not t || (if flow.on_request then agree_on_answers line alternatives d a b f flow else agree_on_sending line alternatives d a b f)) brought) ∙ its
+        sym (ap (λ t. not t || (if flow.on_request then agree_on_answers line alternatives d a b f flow
+        else agree_on_sending line alternatives d a b f)) brought) ∙ its
 
     pub sending_agrees : flow.on_request ≡ false → do_meet line alternatives (Need d) (Flow f) (Flow f) ≡ true
         → are_one_answer (flow_lets_in line a f) (flow_lets_in line b f) ≡ true
     sending_agrees by_itself meet =
-        let its = sym (ap (λ t. if t then agree_on_answers line alternatives d a b f flow else agree_on_sending line alternatives d a b f) by_itself) ∙ agreed in
+        let its = sym (ap (λ t. if t then agree_on_answers line alternatives d a b f flow
+        else agree_on_sending line alternatives d a b f) by_itself) ∙ agreed in
         sym (ap (λ t. not t || are_one_answer (flow_lets_in line a f) (flow_lets_in line b f)) meet) ∙ its
 
     pub answer_agrees : flow.on_request ≡ true → (r : ℕ) (request : RequestPlan) → slice_get line.plan.requests.items r ≡ Some request

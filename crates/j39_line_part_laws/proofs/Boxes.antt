@@ -76,7 +76,8 @@ first_keeps list lists v w all c p at =
       q,
       at_q,
       leads (lets_in list.items (alternative_at c p)) (lets_in list.items (alternative_at c q))
-          (and_parts (not (lets_in list.items (alternative_at c p)) || lets_in list.items (alternative_at c q)) (do_keep lists (alternative_at c p) (alternative_at c q)) kept).0,
+          (and_parts (not (lets_in list.items (alternative_at c p)) || lets_in list.items (alternative_at c q))
+          (do_keep lists (alternative_at c p) (alternative_at c q)) kept).0,
     )
 
 others_keep : (list : Vec Alternative Global) (lists : List (Vec Alternative Global)) (v w : List ℕ) → KeepAll (list ∷ lists) v w → KeepAll lists v w
@@ -84,7 +85,8 @@ others_keep list lists v w all c p at =
     let (q, at_q, kept) = all c p at in (
       q,
       at_q,
-      (and_parts (not (lets_in list.items (alternative_at c p)) || lets_in list.items (alternative_at c q)) (do_keep lists (alternative_at c p) (alternative_at c q)) kept).1,
+      (and_parts (not (lets_in list.items (alternative_at c p)) || lets_in list.items (alternative_at c q))
+          (do_keep lists (alternative_at c p) (alternative_at c q)) kept).1,
     )
 
 pub fewer : (lists : List (Vec Alternative Global)) (v w : List ℕ) → KeepAll lists v w → AreFewer (flags v lists) (flags w lists)

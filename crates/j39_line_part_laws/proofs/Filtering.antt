@@ -1,6 +1,7 @@
 -- The places in the file of what is there are those of the flags by which it is picked.
 use Rattle.std.specs.declared.alloc.Global.{Global}
-use Rattle.std.proofs.Common.{◌≡◌, ℕ, zero, suc, ◌+◌, ◌<◌, Bool, true, false, ◌&&◌, cond, List, [], ◌∷◌, length, filter, Option, Some, None, is_some, option_map, Vec, refl, sym, ◌∙◌, ap, arith}
+use Rattle.std.proofs.Common.{◌≡◌, ℕ, zero, suc, ◌+◌, ◌<◌, Bool, true, false, ◌&&◌, cond, List, [], ◌∷◌, length, filter, Option, Some, None, is_some}
+use Rattle.std.proofs.Common.{option_map, Vec, refl, sym, ◌∙◌, ap, arith}
 use Rattle.std.specs.List.{cons_option, filter_map, range_with_len, slice_get}
 use Rattle.std.specs.Option.{option_map_or}
 use Rattle.std.proofs.lemmas.Option.{same_Some}
@@ -10,7 +11,8 @@ use Rattle.j39_network.specs.declared.plan.to.To.{To}
 use Rattle.j39_network.specs.declared.plan.to.To.TheVariants.{All as ToAll, One}
 use Rattle.j39_variants.specs.declared.line.Alternative.{Alternative}
 use Rattle.j39_variants.specs.declared.line.ProductLine.{ProductLine}
-use Rattle.j39_variants.specs.VariantPlans.{flag_at, flags, flow_between, group_places, moved_flow, moved_receivers, moved_request, picked, place_at, places, request_between}
+use Rattle.j39_variants.specs.VariantPlans.{flag_at, flags, flow_between, group_places, moved_flow, moved_receivers, moved_request, picked, place_at, places}
+use Rattle.j39_variants.specs.VariantPlans.{request_between}
 use Rattle.j39_variants.specs.VariantPlans.{unit_places}
 use Rattle.j39_variants.specs.Variants.{is_in}
 use Rattle.j39_line_findings.specs.MissedNeeds.{is_in_at}
@@ -31,7 +33,8 @@ filtered test (b ∷ bs) a same =
     by : (c : Bool) → test a ≡ c → filter test (range_with_len (a + 1) (length bs)) ≡ picked bs (range_with_len (a + 1) (length bs))
         → cond (test a) (a ∷ filter test (range_with_len (a + 1) (length bs))) (filter test (range_with_len (a + 1) (length bs)))
         ≡ picked (c ∷ bs) (a ∷ range_with_len (a + 1) (length bs))
-    by true is rest = ap (λ t. cond t (a ∷ filter test (range_with_len (a + 1) (length bs))) (filter test (range_with_len (a + 1) (length bs)))) is ∙ ap (λ l. a ∷ l) rest
+    by true is rest = ap (λ t. cond t (a ∷ filter test (range_with_len (a + 1) (length bs))) (filter test (range_with_len (a + 1) (length bs)))) is ∙ ap
+        (λ l. a ∷ l) rest
     by false is rest = ap (λ t. cond t (a ∷ filter test (range_with_len (a + 1) (length bs))) (filter test (range_with_len (a + 1) (length bs)))) is ∙ rest
 
 -- of lists of one length the same places are picked
@@ -74,7 +77,8 @@ kept_at f [] (z ∷ xs) k x same at = absurd (omega (arith, same))
 kept_at f (b ∷ bs) (z ∷ xs) zero x same at = ap (λ v. b && is_some (f v)) (same_Some z x at)
 kept_at f (b ∷ bs) (z ∷ xs) (suc k) x same at = kept_at f bs xs k x (omega (arith, same)) at
 
-pub kept_fewer : {X Y : Type 0} (f g : X → Option Y) → ((x : X) (y : Y) → f x ≡ Some y → is_some (g x) ≡ true) → (bs cs : List Bool) (xs : List X) → AreFewer bs cs
+pub kept_fewer : {X Y : Type 0} (f g : X → Option Y) → ((x : X) (y : Y) → f x ≡ Some y → is_some (g x) ≡ true) → (bs cs : List Bool) (xs : List X)
+    → AreFewer bs cs
     → AreFewer (kept f bs xs) (kept g cs xs)
 kept_fewer f g leads [] [] [] fewer = tt
 kept_fewer f g leads [] [] (x ∷ xs) fewer = tt
@@ -173,5 +177,6 @@ module _ (line : ProductLine) (v : List ℕ) where
       → is_request_there line v k ≡ (flag_at (flags v line.lists.requests.items) k && is_some (moved_request us gs r))
   request_test k r at =
       ap (λ o. option_map_or (λ (request : RequestPlan). is_in_at v line.lists.requests.items k
-      && between (is_in_at v line.lists.groups.items request.group) (is_in_at v line.lists.units.items request.sender) (is_receiver_there line v request.to)) o false) at
+      && between (is_in_at v line.lists.groups.items request.group) (is_in_at v line.lists.units.items request.sender)
+      (is_receiver_there line v request.to)) o false) at
       ∙ named_test line.lists.requests.items k r.group r.sender r.to _ (some_request r (place_at gs r.group) (place_at us r.sender) (moved_receivers us r.to))

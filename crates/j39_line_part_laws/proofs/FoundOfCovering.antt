@@ -157,13 +157,15 @@ module _ (line : ProductLine) (v w : List ℕ) (covered : IsCoveredBy line v w) 
   unit_is : (i : ℕ) (x : UnitPlan) → slice_get part.units.items i ≡ Some x → place_in_file those.units.items (p.unit i) ≡ place_in_file these.units.items i
   unit_is = unit_same line v w covered part of_here.is_plan these those of_here.is_there of_there.is_there
 
-  group_is : (i : ℕ) (x : GroupPlan) → slice_get part.groups.items i ≡ Some x → place_in_file those.groups.items (p.group i) ≡ place_in_file these.groups.items i
+  group_is : (i : ℕ) (x : GroupPlan) → slice_get part.groups.items i ≡ Some x
+      → place_in_file those.groups.items (p.group i) ≡ place_in_file these.groups.items i
   group_is = group_same line v w covered part of_here.is_plan these those of_here.is_there of_there.is_there
 
   flow_is : (i : ℕ) (x : FlowPlan) → slice_get part.flows.items i ≡ Some x → place_in_file those.flows.items (p.flow i) ≡ place_in_file these.flows.items i
   flow_is = flow_same line v w covered part of_here.is_plan these those of_here.is_there of_there.is_there
 
-  request_is : (i : ℕ) (x : RequestPlan) → slice_get part.requests.items i ≡ Some x → place_in_file those.requests.items (p.request i) ≡ place_in_file these.requests.items i
+  request_is : (i : ℕ) (x : RequestPlan) → slice_get part.requests.items i ≡ Some x
+      → place_in_file those.requests.items (p.request i) ≡ place_in_file these.requests.items i
   request_is = request_same line v w covered part of_here.is_plan these those of_here.is_there of_there.is_there
 
   -- ---- findings of the plan
@@ -191,11 +193,14 @@ module _ (line : ProductLine) (v w : List ℕ) (covered : IsCoveredBy line v w) 
       (one_place 7 s 0 _ _ (group_is g holds.value holds.value_is)) (omega arith)
   found_also (SignalOverlap g s t) holds its = also (SignalOverlap (p.group g) s t) (SignalOverlap g s t) its refl
       (one_place 8 s t _ _ (group_is g holds.value holds.value_is)) (omega arith)
-  found_also (FlowToOne f) holds its = also (FlowToOne (p.flow f)) (FlowToOne f) its refl (one_place 9 0 0 _ _ (flow_is f holds.value holds.value_is)) (omega arith)
-  found_also (FlowToSelf f) holds its = also (FlowToSelf (p.flow f)) (FlowToSelf f) its refl (one_place 10 0 0 _ _ (flow_is f holds.value holds.value_is)) (omega arith)
+  found_also (FlowToOne f) holds its = also (FlowToOne (p.flow f)) (FlowToOne f) its refl (one_place 9 0 0 _ _ (flow_is f holds.value holds.value_is))
+      (omega arith)
+  found_also (FlowToSelf f) holds its = also (FlowToSelf (p.flow f)) (FlowToSelf f) its refl (one_place 10 0 0 _ _ (flow_is f holds.value holds.value_is))
+      (omega arith)
   found_also (FlowRepeated f h) holds its = also (FlowRepeated (p.flow f) (p.flow h)) (FlowRepeated f h) its refl
       (two_places 11 0 _ _ _ _ (flow_is f holds.first holds.first_is) (flow_is h holds.second holds.second_is)) (omega arith)
-  found_also (KeptAddress i) holds its = also (KeptAddress (p.unit i)) (KeptAddress i) its refl (one_place 12 0 0 _ _ (unit_is i holds.value holds.value_is)) (omega arith)
+  found_also (KeptAddress i) holds its = also (KeptAddress (p.unit i)) (KeptAddress i) its refl (one_place 12 0 0 _ _ (unit_is i holds.value holds.value_is))
+      (omega arith)
   found_also (PrivateUnsent g) holds its = inl refl
   found_also (RecordOverlap g s t) holds its = also (RecordOverlap (p.group g) s t) (RecordOverlap g s t) its refl
       (one_place 14 s t _ _ (group_is g holds.value holds.value_is)) (omega arith)
@@ -205,12 +210,14 @@ module _ (line : ProductLine) (v w : List ℕ) (covered : IsCoveredBy line v w) 
   found_also (RequestUnanswered r) holds its = inl refl
   found_also (RequestUnheard r) holds its = inl refl
   found_also (AnswerAstray r) holds its = inl refl
-  found_also (WhenOutside g) holds its = also (WhenOutside (p.group g)) (WhenOutside g) its refl (one_place 24 0 0 _ _ (group_is g holds.value holds.value_is)) (omega arith)
+  found_also (WhenOutside g) holds its = also (WhenOutside (p.group g)) (WhenOutside g) its refl (one_place 24 0 0 _ _ (group_is g holds.value holds.value_is))
+      (omega arith)
   found_also (RequestRepeated r s) holds its = also (RequestRepeated (p.request r) (p.request s)) (RequestRepeated r s) its refl
       (two_places 25 0 _ _ _ _ (request_is r holds.first holds.first_is) (request_is s holds.second holds.second_is)) (omega arith)
   found_also (SilentAddress i j) holds its = also (SilentAddress (p.unit i) (p.unit j)) (SilentAddress i j) its refl
       (two_places 26 0 _ _ _ _ (unit_is i holds.first holds.first_is) (unit_is j holds.second holds.second_is)) (omega arith)
-  found_also (SilentInPool i) holds its = also (SilentInPool (p.unit i)) (SilentInPool i) its refl (one_place 27 0 0 _ _ (unit_is i holds.value holds.value_is)) (omega arith)
+  found_also (SilentInPool i) holds its = also (SilentInPool (p.unit i)) (SilentInPool i) its refl (one_place 27 0 0 _ _ (unit_is i holds.value holds.value_is))
+      (omega arith)
   found_also (FlowContested f) holds its = also (FlowContested (p.flow f)) (FlowContested f) its refl
       (one_place 28 0 0 _ _ (flow_is f holds.value holds.value_is)) (omega arith)
 
@@ -219,15 +226,33 @@ module _ (line : ProductLine) (v w : List ℕ) (covered : IsCoveredBy line v w) 
   load_also : (finding : LoadFinding) → IsFoundThere p part of_there.others finding → IsAbsentOrFound there (OfLoad (load_finding_in_file these finding))
   load_also (NoPeriod f) (inside, among) =
       let (flow, at_f) = value_at part.flows.items f inside in
-      inr (OfLoad (NoPeriod (place_in_file those.flows.items (p.flow f))), of_load_reported line w there of_there (NoPeriod (p.flow f)) among, refl, one_place 16 0 0 _ _ (flow_is f flow at_f), omega arith)
+      inr (
+        OfLoad (NoPeriod (place_in_file those.flows.items (p.flow f))),
+        of_load_reported line w there of_there (NoPeriod (p.flow f)) among,
+        refl,
+        one_place 16 0 0 _ _ (flow_is f flow at_f),
+        omega arith,
+      )
   load_also (Overload n) (m, more, among) = inr (OfLoad (Overload m), of_load_reported line w there of_there (Overload m) among, refl, refl, more)
   load_also (LateFlow f) (inside, among) =
       let (flow, at_f) = value_at part.flows.items f inside in
-      inr (OfLoad (LateFlow (place_in_file those.flows.items (p.flow f))), of_load_reported line w there of_there (LateFlow (p.flow f)) among, refl, one_place 18 0 0 _ _ (flow_is f flow at_f), omega arith)
+      inr (
+        OfLoad (LateFlow (place_in_file those.flows.items (p.flow f))),
+        of_load_reported line w there of_there (LateFlow (p.flow f)) among,
+        refl,
+        one_place 18 0 0 _ _ (flow_is f flow at_f),
+        omega arith,
+      )
   load_also (NeedTooOld d) its = inl refl
   load_also (AskedTooOften f) (inside, among) =
       let (flow, at_f) = value_at part.flows.items f inside in
-      inr (OfLoad (AskedTooOften (place_in_file those.flows.items (p.flow f))), of_load_reported line w there of_there (AskedTooOften (p.flow f)) among, refl, one_place 31 0 0 _ _ (flow_is f flow at_f), omega arith)
+      inr (
+        OfLoad (AskedTooOften (place_in_file those.flows.items (p.flow f))),
+        of_load_reported line w there of_there (AskedTooOften (p.flow f)) among,
+        refl,
+        one_place 31 0 0 _ _ (flow_is f flow at_f),
+        omega arith,
+      )
 
   -- ---- all of them
 
@@ -238,7 +263,8 @@ module _ (line : ProductLine) (v w : List ℕ) (covered : IsCoveredBy line v w) 
     | inr (d, absent, is) ↦ inl (ap comes_by_absence (sym is))
   ]
 
-  load_found : ((g : ℕ) → ¬ IsFound there (OfPlan (BadPgn g))) → (finding : LoadFinding) → IsFound here (OfLoad finding) → IsAbsentOrFound there (OfLoad finding)
+  load_found : ((g : ℕ) → ¬ IsFound there (OfPlan (BadPgn g))) → (finding : LoadFinding) → IsFound here (OfLoad finding)
+      → IsAbsentOrFound there (OfLoad finding)
   load_found good finding one =
       let (x, among, is) = in_load line v here of_here finding one in
       subst (λ f. IsAbsentOrFound there (OfLoad f)) is (load_also x

@@ -1,7 +1,9 @@
 -- Each variant is covered by a full one.
 use Rattle.std.specs.declared.alloc.Global.{Global}
-use Rattle.std.proofs.Common.{◌≡◌, ◌≢◌, ◌⊎◌, ℕ, zero, suc, ◌<◌, ◌≤◌, Bool, true, false, not, ◌&&◌, ◌||◌, ◌==◌, nat_lt, List, [], ◌∷◌, Option, Some, None, Vec, refl, sym, ◌∙◌, ap, subst, inl, inr, arith}
-use Rattle.std.proofs.lemmas.Bool.{and_from, and_parts, cases_Bool, cases_eq, cases_lt, eq-eqb, eqb-true, false≢true, lt-ltb, ltb-true, or_cases, or_left, or_right, true≢false}
+use Rattle.std.proofs.Common.{◌≡◌, ◌≢◌, ◌⊎◌, ℕ, zero, suc, ◌<◌, ◌≤◌, Bool, true, false, not, ◌&&◌, ◌||◌, ◌==◌, nat_lt, List, [], ◌∷◌, Option, Some, None, Vec}
+use Rattle.std.proofs.Common.{refl, sym, ◌∙◌, ap, subst, inl, inr, arith}
+use Rattle.std.proofs.lemmas.Bool.{and_from, and_parts, cases_Bool, cases_eq, cases_lt, eq-eqb, eqb-true, false≢true, lt-ltb, ltb-true, or_cases, or_left}
+use Rattle.std.proofs.lemmas.Bool.{or_right, true≢false}
 use Rattle.j39_variants.specs.declared.line.Alternative.{Alternative}
 use Rattle.j39_variants.specs.declared.line.ProductLine.{ProductLine}
 use Rattle.j39_line_findings.specs.Boxes.{is_one_alternative, lets_in}
@@ -43,10 +45,12 @@ keep-trans (l ∷ ls) a b c one two =
 
 module _ (line : ProductLine) where
   covers_from : (a b : Alternative) → do_keep line.lists.units.items a b ≡ true → do_keep line.lists.groups.items a b ≡ true
-      → do_keep line.lists.flows.items a b ≡ true → do_keep line.lists.requests.items a b ≡ true → do_keep line.nevers.items b a ≡ true → is_covered line a b ≡ true
+      → do_keep line.lists.flows.items a b ≡ true → do_keep line.lists.requests.items a b ≡ true → do_keep line.nevers.items b a ≡ true
+      → is_covered line a b ≡ true
   covers_from a b units groups flows requests nevers =
       and_from (do_keep line.lists.units.items a b) _ units (and_from (do_keep line.lists.groups.items a b) _ groups
-      (and_from (do_keep line.lists.flows.items a b) _ flows (and_from (do_keep line.lists.requests.items a b) (do_keep line.nevers.items b a) requests nevers)))
+      (and_from (do_keep line.lists.flows.items a b) _ flows (and_from (do_keep line.lists.requests.items a b)
+      (do_keep line.nevers.items b a) requests nevers)))
 
   covered-refl : (a : Alternative) → is_covered line a a ≡ true
   covered-refl a = covers_from a a (keep-refl line.lists.units.items a) (keep-refl line.lists.groups.items a) (keep-refl line.lists.flows.items a)
@@ -67,13 +71,15 @@ module _ (line : ProductLine) (alternatives : List Alternative) where
   covered_for-refl None a = covered-refl line a
   covered_for-refl (Some d) a = and_from (is_covered line a a) (agree_on_need line alternatives d a a) (covered-refl line a) (agree-refl line alternatives d a)
 
-  covered_for-trans : (need : Option ℕ) (a b c : Alternative) → is_covered_for line alternatives need a b ≡ true → is_covered_for line alternatives need b c ≡ true
+  covered_for-trans : (need : Option ℕ) (a b c : Alternative) → is_covered_for line alternatives need a b ≡ true
+      → is_covered_for line alternatives need b c ≡ true
       → is_covered_for line alternatives need a c ≡ true
   covered_for-trans None a b c one two = covered-trans line a b c one two
   covered_for-trans (Some d) a b c one two =
       let (first, agree) = and_parts (is_covered line a b) (agree_on_need line alternatives d a b) one in
       let (second, also) = and_parts (is_covered line b c) (agree_on_need line alternatives d b c) two in
-      and_from (is_covered line a c) (agree_on_need line alternatives d a c) (covered-trans line a b c first second) (agree-trans line alternatives d a b c agree also)
+      and_from (is_covered line a c) (agree_on_need line alternatives d a c) (covered-trans line a b c first second)
+      (agree-trans line alternatives d a b c agree also)
 
   pub covered_of : (need : Option ℕ) (a b : Alternative) → is_covered_for line alternatives need a b ≡ true → is_covered line a b ≡ true
   covered_of None a b covers = covers
@@ -103,10 +109,12 @@ module _ (line : ProductLine) (alternatives : List Alternative) where
       | inl same ↦ inr (one_choice p q ∙ or_left (is_one_alternative (alternative_at c q) (alternative_at c p)) (not (covers p q) || (covers q p && nat_lt p q))
           (and_from (c == c) (q == p) (eq-eqb c c refl) (eq-eqb q p same)))
       | inr other ↦ elim (cases_Bool (covers p q)) [
-        | inr none ↦ inr (one_choice p q ∙ or_right (is_one_alternative (alternative_at c q) (alternative_at c p)) (not (covers p q) || (covers q p && nat_lt p q))
+        | inr none ↦ inr (one_choice p q ∙ or_right (is_one_alternative (alternative_at c q) (alternative_at c p))
+            (not (covers p q) || (covers q p && nat_lt p q))
             (or_left (not (covers p q)) (covers q p && nat_lt p q) (ap not none)))
         | inl covered ↦ elim (cases_Bool (covers q p && nat_lt p q)) [
-          | inl behind ↦ inr (one_choice p q ∙ or_right (is_one_alternative (alternative_at c q) (alternative_at c p)) (not (covers p q) || (covers q p && nat_lt p q))
+          | inl behind ↦ inr (one_choice p q ∙ or_right (is_one_alternative (alternative_at c q) (alternative_at c p))
+              (not (covers p q) || (covers q p && nat_lt p q))
               (or_right (not (covers p q)) (covers q p && nat_lt p q) behind))
           | inr stands ↦ inl (covered, other, λ back. before other back stands)
         ]
@@ -126,7 +134,12 @@ module _ (line : ProductLine) (alternatives : List Alternative) where
     ]
 
     better-trans : (p q r : ℕ) → IsBetter p q → IsBetter q r → IsBetter p r
-    better-trans p q r (covered, differ, before) (also, other, behind) = (covered_for-trans need (alternative_at c p) (alternative_at c q) (alternative_at c r) covered also, ne, less)
+    better-trans p q r (covered, differ, before) (also, other, behind) = (
+      covered_for-trans need (alternative_at c p) (alternative_at c q)
+          (alternative_at c r) covered also,
+      ne,
+      less,
+    )
       where
         ne : r ≢ p
         ne same =

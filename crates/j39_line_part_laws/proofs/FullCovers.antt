@@ -1,5 +1,6 @@
 -- Of each choice a full alternative that covers the one taken makes a full variant.
-use Rattle.std.proofs.Common.{◌≡◌, ◌⊎◌, ℕ, zero, suc, ◌+◌, ◌<◌, ◌≤◌, Bool, true, false, not, ◌&&◌, ◌==◌, cond, List, [], ◌∷◌, length, map, filter, slice_index, Contains, Option, Some, None, refl, sym, ◌∙◌, ap, subst, inl, inr, arith}
+use Rattle.std.proofs.Common.{◌≡◌, ◌⊎◌, ℕ, zero, suc, ◌+◌, ◌<◌, ◌≤◌, Bool, true, false, not, ◌&&◌, ◌==◌, cond, List, [], ◌∷◌, length, map, filter, slice_index}
+use Rattle.std.proofs.Common.{Contains, Option, Some, None, refl, sym, ◌∙◌, ap, subst, inl, inr, arith}
 use Rattle.std.specs.List.{list_any, range_with_len, slice_get}
 use Rattle.std.specs.Option.{option_map_or}
 use Rattle.std.proofs.lemmas.Bool.{and_from, cases_Bool, cases_eq, cases_lt, eq-eqb, false≢true, ne_eqb, or_left}
@@ -8,7 +9,8 @@ use Rattle.j39_variants.specs.declared.line.Alternative.{Alternative}
 use Rattle.j39_variants.specs.declared.line.Choice.{Choice}
 use Rattle.j39_variants.specs.declared.line.ProductLine.{ProductLine}
 use Rattle.j39_variants.specs.Variants.{is_in, IsVariant, size_at, takes_alternative}
-use Rattle.j39_line_findings.specs.FullVariants.{alternative_at, alternatives_of, alternatives_of_choice, compared, does_leave, does_need_let_in, full_alternatives, is_full_among}
+use Rattle.j39_line_findings.specs.FullVariants.{alternative_at, alternatives_of, alternatives_of_choice, compared, does_leave, does_need_let_in}
+use Rattle.j39_line_findings.specs.FullVariants.{full_alternatives, is_full_among}
 use Rattle.j39_part_laws.proofs.LoadFindings.{line_reported, reported_at}
 use Rattle.j39_part_laws.proofs.Places.{no_value, value_at}
 use Rattle.j39_line_part_laws.specs.Covering.{HasFullCover, HasFullCoverFor, IsCoveredFor, IsInBoxOf, TakesFullAlone}
@@ -44,7 +46,8 @@ of_filter f [] i x at = absurd (no_value i x at)
 of_filter {X = X} f (y ∷ ys) i x at = by (f y) refl i at (λ k found. of_filter f ys k x found)
   where
     by : (b : Bool) → f y ≡ b → (k : ℕ) → slice_get (cond b (y ∷ filter f ys) (filter f ys)) k ≡ Some x
-        → ((n : ℕ) → slice_get (filter f ys) n ≡ Some x → (j : ℕ) × (slice_get ys j ≡ Some x) × (f x ≡ true)) → (j : ℕ) × (slice_get (y ∷ ys) j ≡ Some x) × (f x ≡ true)
+        → ((n : ℕ) → slice_get (filter f ys) n ≡ Some x → (j : ℕ) × (slice_get ys j ≡ Some x) × (f x ≡ true)) → (j : ℕ) × (slice_get (y ∷ ys) j ≡ Some x)
+        × (f x ≡ true)
     by true is_b zero found rest = (0, found, ap f (sym (same_Some y x found)) ∙ is_b)
     by true is_b (suc k) found rest = let (j, is, passes) = rest k found in (suc j, is, passes)
     by false is_b k found rest = let (j, is, passes) = rest k found in (suc j, is, passes)
@@ -198,7 +201,8 @@ module _ (line : ProductLine) where
             (best.best d.place (omega (arith, inside, sizes)) (subst (λ k. lets k d.place ≡ true) same let_d)))
       ]
 
-      full_at : (c p : ℕ) → slice_get v c ≡ Some p → (j : ℕ) × (slice_get (full_alternatives line alternatives need) j ≡ Some (alternative_at c (full_place c p)))
+      full_at : (c p : ℕ) → slice_get v c ≡ Some p → (j : ℕ) × (slice_get (full_alternatives line alternatives need) j ≡ Some
+          (alternative_at c (full_place c p)))
       full_at c p at =
           let m = full_place c p in
           let b = alternative_at c m in
@@ -215,7 +219,8 @@ module _ (line : ProductLine) where
           in_filter (is_full_among line alternatives need these) these j b at_j full
 
       is_full : is_in w (full_alternatives line alternatives need) ≡ true
-      is_full = at_all (λ a. list_any (λ b. (b.choice == a.choice) && takes_alternative w b) (full_alternatives line alternatives need)) (full_alternatives line alternatives need)
+      is_full = at_all (λ a. list_any (λ b. (b.choice == a.choice) && takes_alternative w b) (full_alternatives line alternatives need))
+          (full_alternatives line alternatives need)
           (λ i a at_a.
           let (j, at_j, passes) = of_filter (is_full_among line alternatives need these) these i a at_a in
           let (k, at_k, let_in) = of_filter (does_need_let_in line need) alternatives j a at_j in
@@ -246,7 +251,8 @@ module _ (line : ProductLine) where
       has_full : HasFullCoverFor line need v
       has_full = (w, is_variant, record { in_box = is_full; each = takes_full }, covered, in_box_too)
 
-pub has_full_cover_for : (line : ProductLine) (need : Option ℕ) (v : List ℕ) → IsVariant line.choices.items v → IsInBoxOf line need v → HasFullCoverFor line need v
+pub has_full_cover_for : (line : ProductLine) (need : Option ℕ) (v : List ℕ) → IsVariant line.choices.items v → IsInBoxOf line need v
+    → HasFullCoverFor line need v
 has_full_cover_for line need v is in_need = has_full line need v is in_need
 
 pub has_full_cover : (line : ProductLine) (v : List ℕ) → IsVariant line.choices.items v → HasFullCover line v

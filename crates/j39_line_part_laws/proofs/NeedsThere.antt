@@ -31,11 +31,13 @@ module _ (line : ProductLine) (v : List ℕ) where
   pub need_test : (k : ℕ) (need : NeedPlan) → slice_get line.plan.needs.items k ≡ Some need
       → is_need_there line v k ≡ (flag_at (flags v line.lists.needs.items) k && is_some (moved_need (unit_places line v) (group_places line v) need))
   need_test k need at =
-      let all : is_some (moved_need (unit_places line v) (group_places line v) need) ≡ (is_unit_there line v need.unit && (is_group_there line v need.group && is_sender_there line v need.from)) =
+      let all : is_some (moved_need (unit_places line v) (group_places line v) need)
+      ≡ (is_unit_there line v need.unit && (is_group_there line v need.group && is_sender_there line v need.from)) =
       some_need need (place_at (unit_places line v) need.unit) (place_at (group_places line v) need.group) (moved_from (unit_places line v) need.from)
       ∙ ap (λ b. b && (is_some (place_at (group_places line v) need.group) && is_some (moved_from (unit_places line v) need.from)))
       (some_place v line.lists.units.items 0 need.unit)
-      ∙ ap (λ b. is_unit_there line v need.unit && (b && is_some (moved_from (unit_places line v) need.from))) (some_place v line.lists.groups.items 0 need.group)
+      ∙ ap (λ b. is_unit_there line v need.unit && (b && is_some (moved_from (unit_places line v) need.from)))
+      (some_place v line.lists.groups.items 0 need.group)
       ∙ ap (λ b. is_unit_there line v need.unit && (is_group_there line v need.group && b)) (some_sender need.from) in
       ap (λ o. option_map_or (λ (x : NeedPlan). is_in_at v line.lists.needs.items k && is_unit_there line v x.unit) o false
       && option_map_or (λ (x : NeedPlan). is_group_there line v x.group && is_sender_there line v x.from) o false) at

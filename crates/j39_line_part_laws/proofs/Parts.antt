@@ -11,7 +11,8 @@ use Rattle.j39_network.specs.declared.plan.to.To.{To}
 use Rattle.j39_network.specs.declared.plan.to.To.TheVariants.{All as ToAll, One}
 use Rattle.j39_variants.specs.declared.line.Alternative.{Alternative}
 use Rattle.j39_variants.specs.declared.line.ProductLine.{ProductLine}
-use Rattle.j39_variants.specs.VariantPlans.{flags, flow_between, group_places, IsCopyOfGroup, IsVariantPlan, moved_flow, moved_receivers, moved_request, picked, place_at}
+use Rattle.j39_variants.specs.VariantPlans.{flags, flow_between, group_places, IsCopyOfGroup, IsVariantPlan, moved_flow, moved_receivers, moved_request, picked}
+use Rattle.j39_variants.specs.VariantPlans.{place_at}
 use Rattle.j39_variants.specs.VariantPlans.{request_between, unit_places}
 use Rattle.j39_part_laws.specs.PlanParts.{AreSome, IsFlowThere, IsGroupThere, IsPlanPart, IsPartAt, IsRequestThere, IsSame, Places, to_in}
 use Rattle.j39_line_part_laws.specs.Covering.{IsCoveredBy}
@@ -141,14 +142,16 @@ module _ (line : ProductLine) (v w : List ℕ) (covered : IsCoveredBy line v w) 
           (some_picked (flags v line.lists.units.items) (flags w line.lists.units.items) line.plan.units.items units_fewer));
       groups = some_copied IsCopyOfGroup IsGroupThere copies_alike at.group (picked (flags v line.lists.groups.items) line.plan.groups.items)
           (picked (flags w line.lists.groups.items) line.plan.groups.items) part.groups.items whole.groups.items
-          (some_picked (flags v line.lists.groups.items) (flags w line.lists.groups.items) line.plan.groups.items groups_fewer) here.has_groups there.has_groups;
+          (some_picked (flags v line.lists.groups.items)
+          (flags w line.lists.groups.items) line.plan.groups.items groups_fewer) here.has_groups there.has_groups;
       flows = subst (λ xs. AreSome at.flow (IsFlowThere at) xs whole.flows.items) (sym here.has_flows)
           (subst (AreSome at.flow (IsFlowThere at) (filter_map flow_here (picked (flags v line.lists.flows.items) line.plan.flows.items))) (sym there.has_flows)
           (some_kept (IsFlowThere at) flow_here flow_in
           (flow_there at (unit_places line v) (unit_places line w) (group_places line v) (group_places line w) units_there groups_there)
           (flags v line.lists.flows.items) (flags w line.lists.flows.items) line.plan.flows.items flows_fewer));
       requests = subst (λ xs. AreSome at.request (IsRequestThere at) xs whole.requests.items) (sym here.has_requests)
-          (subst (AreSome at.request (IsRequestThere at) (filter_map request_here (picked (flags v line.lists.requests.items) line.plan.requests.items))) (sym there.has_requests)
+          (subst (AreSome at.request (IsRequestThere at) (filter_map request_here (picked (flags v line.lists.requests.items) line.plan.requests.items)))
+          (sym there.has_requests)
           (some_kept (IsRequestThere at) request_here request_in
           (request_there at (unit_places line v) (unit_places line w) (group_places line v) (group_places line w) units_there groups_there)
           (flags v line.lists.requests.items) (flags w line.lists.requests.items) line.plan.requests.items requests_fewer));

@@ -30,7 +30,8 @@ flagged test bs n same each =
     (filtered test bs 0 (λ k below. ap test (let e : 0 + k ≡ k = omega arith in e) ∙ each k (omega (arith, below, same))))
 
 -- what stands at a place here stands there at the place that is reported
-place_same : (bs cs : List Bool) (n : ℕ) → AreFewer bs cs → (here there : List ℕ) → here ≡ picked bs (range_with_len 0 n) → there ≡ picked cs (range_with_len 0 n)
+place_same : (bs cs : List Bool) (n : ℕ) → AreFewer bs cs → (here there : List ℕ) → here ≡ picked bs (range_with_len 0 n)
+    → there ≡ picked cs (range_with_len 0 n)
     → (i k : ℕ) → slice_get (picked bs (range_with_len 0 n)) i ≡ Some k → place_in_file there (thin bs cs i) ≡ place_in_file here i
 place_same bs cs n fewer here there is_here is_there i k at_i =
     let are = (some_picked bs cs (range_with_len 0 n) fewer).each i k at_i in
@@ -95,8 +96,10 @@ module _ (line : ProductLine) (v w : List ℕ) (covered : IsCoveredBy line v w) 
   abbrev pub flow_flags : List ℕ → List Bool
   flow_flags x = kept (moved_flow (unit_places line x) (group_places line x)) (flags x line.lists.flows.items) line.plan.flows.items
 
-  pub flows_flagged : (x : List ℕ) → places_of_those (is_flow_there line x) (length line.plan.flows.items) ≡ picked (flow_flags x) (range_with_len 0 (length line.plan.flows.items))
-  flows_flagged x = flagged_kept (is_flow_there line x) (moved_flow (unit_places line x) (group_places line x)) (flags x line.lists.flows.items) line.plan.flows.items
+  pub flows_flagged : (x : List ℕ) → places_of_those (is_flow_there line x) (length line.plan.flows.items) ≡ picked (flow_flags x)
+      (range_with_len 0 (length line.plan.flows.items))
+  flows_flagged x = flagged_kept (is_flow_there line x) (moved_flow (unit_places line x) (group_places line x))
+      (flags x line.lists.flows.items) line.plan.flows.items
       (length-map line.lists.flows.items (λ list. is_in x list.items) ∙ line.flow_lists) (flow_test line x)
 
   pub flow_flags_fewer : AreFewer (flow_flags v) (flow_flags w)
@@ -106,8 +109,10 @@ module _ (line : ProductLine) (v w : List ℕ) (covered : IsCoveredBy line v w) 
 
   pub flow_same : (i : ℕ) (flow : FlowPlan) → slice_get part.flows.items i ≡ Some flow
       → place_in_file there.flows.items ((at line v w covered).flow i) ≡ place_in_file here.flows.items i
-  flow_same i flow at_i = same_kept_place (flow_here line v w covered) (flow_in line v w covered) (flags v line.lists.flows.items) (flags w line.lists.flows.items)
-      line.plan.flows.items flow_flags_fewer here.flows.items there.flows.items (are_here.has_flows ∙ flows_flagged v) (are_there.has_flows ∙ flows_flagged w) i flow
+  flow_same i flow at_i = same_kept_place (flow_here line v w covered) (flow_in line v w covered) (flags v line.lists.flows.items)
+      (flags w line.lists.flows.items)
+      line.plan.flows.items flow_flags_fewer here.flows.items there.flows.items (are_here.has_flows ∙ flows_flagged v)
+      (are_there.has_flows ∙ flows_flagged w) i flow
       (ap (λ l. slice_get l i) (sym is.has_flows) ∙ at_i)
 
   -- ---- requests
@@ -123,10 +128,12 @@ module _ (line : ProductLine) (v w : List ℕ) (covered : IsCoveredBy line v w) 
   request_flags_fewer : AreFewer (request_flags v) (request_flags w)
   request_flags_fewer = keeps_too (request_here line v w covered) (request_in line v w covered)
       (request_there (at line v w covered) (unit_places line v) (unit_places line w) (group_places line v) (group_places line w) (units_there line v w covered)
-      (groups_there line v w covered)) (flags v line.lists.requests.items) (flags w line.lists.requests.items) line.plan.requests.items (requests_fewer line v w covered)
+      (groups_there line v w covered)) (flags v line.lists.requests.items) (flags w line.lists.requests.items) line.plan.requests.items
+      (requests_fewer line v w covered)
 
   pub request_same : (i : ℕ) (request : RequestPlan) → slice_get part.requests.items i ≡ Some request
       → place_in_file there.requests.items ((at line v w covered).request i) ≡ place_in_file here.requests.items i
   request_same i request at_i = same_kept_place (request_here line v w covered) (request_in line v w covered) (flags v line.lists.requests.items)
-      (flags w line.lists.requests.items) line.plan.requests.items request_flags_fewer here.requests.items there.requests.items (are_here.has_requests ∙ requests_flagged v)
+      (flags w line.lists.requests.items) line.plan.requests.items request_flags_fewer here.requests.items there.requests.items
+      (are_here.has_requests ∙ requests_flagged v)
       (are_there.has_requests ∙ requests_flagged w) i request (ap (λ l. slice_get l i) (sym is.has_requests) ∙ at_i)

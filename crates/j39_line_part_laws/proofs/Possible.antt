@@ -13,7 +13,8 @@ use Rattle.j39_line_part_laws.specs.Covering.{IsCoveredBy}
 use Rattle.j39_line_part_laws.proofs.Boxes.{AreFewer, fewer, keep_nevers, KeepAll}
 
 -- no box that has the second variant lacks the first
-no_more : (nevers : List (Vec Alternative Global)) (v w : List ℕ) → AreFewer (flags w nevers) (flags v nevers) → is_possible nevers v ≡ true → is_possible nevers w ≡ true
+no_more : (nevers : List (Vec Alternative Global)) (v w : List ℕ) → AreFewer (flags w nevers) (flags v nevers) → is_possible nevers v ≡ true
+    → is_possible nevers w ≡ true
 no_more [] v w less possible = refl
 no_more (never ∷ nevers) v w less possible =
     let (first, rest) = and_parts (not (is_in v never.items)) (is_possible nevers v) possible in
@@ -34,5 +35,9 @@ possible_too line v w one other covered =
         let also = other.of_each in
         let (p, at_p) = value_at v c (omega (arith, below, long, also)) in
         let (r, at_r, covers) = covered c p at_p in
-        let same : r ≡ q = same_Some r q (sym at_r ∙ at_q) in
-        (p, at_p, ap (λ k. do_keep line.nevers.items (alternative_at c k) (alternative_at c p)) (sym same) ∙ keep_nevers line (alternative_at c p) (alternative_at c r) covers)
+        let same : r ≡ q = same_Some r q (sym at_r ∙ at_q) in (
+          p,
+          at_p,
+          ap (λ k. do_keep line.nevers.items (alternative_at c k) (alternative_at c p)) (sym same) ∙ keep_nevers line (alternative_at c p)
+              (alternative_at c r) covers,
+        )

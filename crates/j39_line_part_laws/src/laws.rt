@@ -3,7 +3,8 @@ ghost use Rattle.std.specs.Prelude.{◌≡◌, ℕ, List, true};
 ghost use Rattle.j39_line_findings.specs.LineFound.{AreVariantFindings};
 ghost use Rattle.j39_line_findings.specs.declared.line_finding.LineFinding.{LineFinding};
 ghost use Rattle.j39_line_part_laws.specs.Covering.{HasFullCover, IsCoveredBy};
-ghost use Rattle.j39_line_part_laws.specs.FoundOfCovering.{AreFoundOfCovering, FullVariantsSuffice, OnlyAbsenceIsReported};
+ghost use Rattle.j39_line_part_laws.specs.FoundOfCovering.{AreFoundOfCovering, FullVariantsSuffice};
+ghost use Rattle.j39_line_part_laws.specs.FoundOfCovering.{OnlyAbsenceIsReported};
 ghost use Rattle.j39_network.specs.declared.plan.Plan.{Plan};
 ghost use Rattle.j39_part_laws.specs.PlanParts.{IsPlanPart};
 ghost use Rattle.j39_variants.specs.VariantPlans.{IsVariantPlan};
@@ -48,8 +49,8 @@ pub fn full_variants_suffice_but_for_absence()
     ensures { (line : ProductLine) → FullVariantsSuffice line }
 {}
 
-/// Each variant has a plan, and a list of all its findings: so what laws say of each plan of a variant, and of each such
-/// list, they say of some.
+/// Each variant has a plan, and a list of all its findings: so what laws say of each plan of a variant, and of each
+/// such list, they say of some.
 pub fn variants_have_findings()
     ensures plans { (line : ProductLine) (variant : List ℕ) → (plan : Plan) × IsVariantPlan line variant plan }
     ensures findings { (line : ProductLine) (variant : List ℕ) → (findings : List LineFinding)

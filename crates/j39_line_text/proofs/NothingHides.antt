@@ -31,7 +31,8 @@ sure line Times (OfLoad (LateFlow f)) is = absurd (false≢true is)
 sure line Times (OfLoad (NeedTooOld d)) is = absurd (false≢true is)
 sure line Times (OfLoad (AskedTooOften f)) is = absurd (false≢true is)
 
-all_shown : (asked : Asked) (line : ProductLine) (reported : List ReportedFinding) → SomePossible line → AreReported line None reported → is_any_hiding asked reported ≡ false
+all_shown : (asked : Asked) (line : ProductLine) (reported : List ReportedFinding) → SomePossible line → AreReported line None reported
+    → is_any_hiding asked reported ≡ false
     → AreAllShown asked line
 all_shown asked line reported some are none = record {
   some = some;

@@ -31,7 +31,8 @@ fn stays_text(
     line: &ProductLine,
     variants: &[Vec<usize>],
 ) -> Result<TextBuffer, AllocError>
-    ensures { IfOk result (λ text. (standings : List LineStanding) × AreStandingsAmong (IsOneOf (map (λ v. v.items) variants.now)) line.now standings
+    ensures { IfOk result (λ text. (standings : List LineStanding)
+        × AreStandingsAmong (IsOneOf (map (λ v. v.items) variants.now)) line.now standings
         × ((possible : List Bool) × ArePartsPossible line.now (units_of_line line.now) possible
         × (text ≡ standings_text (shown_standings possible standings) line.now.plan.units.items))) }
 {
@@ -49,7 +50,8 @@ fn found_addresses(
     reported: &[ReportedFinding],
     looked: &LookedAt,
 ) -> ReportResult
-    ensures { IfOk result (λ report. AreReportedAt line.now looked.now reported.now → IsLineAddressesReport line.now report.0 report.1) }
+    ensures { IfOk result (λ report. AreReportedAt line.now looked.now reported.now
+        → IsLineAddressesReport line.now report.0 report.1) }
 {
     who_stays();
     who_stays_with_strangers();
@@ -97,15 +99,16 @@ impl LineReport for AddressesReport {
 
 /// Writes which units of the plan that a file describes hold their planned addresses whatever happens, and which may
 /// move, of a line of vehicles in each of the variants at which `check` looks that has them; of one whose NAMEs or
-/// addresses have findings, or of a line with too many full variants, what `check` writes, and how many these are; or why
-/// the file describes no plan.
+/// addresses have findings, or of a line with too many full variants, what `check` writes, and how many these are; or
+/// why the file describes no plan.
 #[inline(never)]
 pub fn addresses_line_text<S: Source, W: Sink>(
     alloc: Global,
     source: &mut S,
     sink: &mut W,
 ) -> CommandResult
-    ensures { AnswersWhole IsLineAddressesText (IsOfAny IsLineAddressesText) plan_limits (S.state source.old) (S.state source.new) W.state sink.old sink.new result }
+    ensures { AnswersWhole IsLineAddressesText (IsOfAny IsLineAddressesText) plan_limits (S.state source.old)
+        (S.state source.new) W.state sink.old sink.new result }
 {
     report_text(alloc, &AddressesReport, source, sink)
 }

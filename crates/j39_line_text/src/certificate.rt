@@ -9,8 +9,8 @@ use j39_findings::clean_where_none;
 use j39_line_check::nothing_reported_is_nothing_found;
 use j39_plan_text::clean_plans_are_certified;
 
-/// Where nothing is reported of a line, each possible variant is certified: its plan is clean, and all holds of it that holds
-/// of such a plan.
+/// Where nothing is reported of a line, each possible variant is certified: its plan is clean, and all holds of it that
+/// holds of such a plan.
 pub(crate) fn variants_without_findings_are_certified()
     ensures { (line : ProductLine) → AreReported line None [] → (variant : List ℕ) → IsPossible line variant
         → IsCertifiedVariant line variant }

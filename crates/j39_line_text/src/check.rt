@@ -35,7 +35,8 @@ pub fn check_line_text<S: Source, W: Sink>(
     source: &mut S,
     sink: &mut W,
 ) -> CommandResult
-    ensures { AnswersWhole IsLineCheckText (IsOfAny IsLineCheckText) plan_limits (S.state source.old) (S.state source.new) W.state sink.old sink.new result }
+    ensures { AnswersWhole IsLineCheckText (IsOfAny IsLineCheckText) plan_limits (S.state source.old)
+        (S.state source.new) W.state sink.old sink.new result }
 {
     report_text(alloc, &CheckReport, source, sink)
 }

@@ -1,6 +1,7 @@
 //! Findings of possible variants for which check's answer is written.
 ghost use Rattle.std.specs.Prelude.{◌≡◌, map};
-ghost use Rattle.j39_line_text.specs.Hindrances.{does_hide, hides, hides_addresses, is_any_hiding, is_hidden, variants_at};
+ghost use Rattle.j39_line_text.specs.Hindrances.{does_hide, hides, hides_addresses, is_any_hiding, is_hidden};
+ghost use Rattle.j39_line_text.specs.Hindrances.{variants_at};
 
 use j39_line_check::{LookedAt, ReportedFinding};
 use j39_line_findings::LineFinding;
@@ -53,8 +54,8 @@ pub(crate) fn variants_at(looked: &LookedAt) -> &[Vec<usize>]
     }
 }
 
-/// Whether something stands in the way of what is reported of a line: too many full variants, or a finding that hides what is
-/// asked.
+/// Whether something stands in the way of what is reported of a line: too many full variants, or a finding that hides
+/// what is asked.
 pub(crate) fn is_hidden(asked: Asked, reported: &[ReportedFinding], many: Option<u64>) -> bool
     ensures { result ≡ is_hidden asked many reported.now }
 {

@@ -47,7 +47,8 @@ fn found_report(
     reported: &[ReportedFinding],
     many: Option<u64>,
 ) -> ReportResult
-    ensures { IfOk result (λ report. SomePossible line.now → AreReported line.now many reported.now → IsLineReport line.now report.0 report.1) }
+    ensures { IfOk result (λ report. SomePossible line.now → AreReported line.now many reported.now
+        → IsLineReport line.now report.0 report.1) }
 {
     variants_without_findings_are_certified();
     if is_some_reported(reported, many) {

@@ -3,7 +3,8 @@ ghost use Rattle.std.specs.Prelude.{◌≡◌, IfOk, Some};
 ghost use Rattle.j39_line_check.specs.LookedTimes.{AreLookedTimes};
 ghost use Rattle.j39_load.specs.BusTimes.{timing_of};
 ghost use Rattle.j39_line_text.specs.Hindrances.{AreReportedAt, IsShownLine};
-ghost use Rattle.j39_line_text.specs.LineLoadText.{IsLineLoadReport, IsLineLoadText, IsTimesReport, ReportsLineTiming, line_load_verdict};
+ghost use Rattle.j39_line_text.specs.LineLoadText.{IsLineLoadReport, IsLineLoadText, IsTimesReport, ReportsLineTiming};
+ghost use Rattle.j39_line_text.specs.LineLoadText.{line_load_verdict};
 ghost use Rattle.j39_line_check.specs.declared.answer.LookedAt.{LookedAt as Looked};
 ghost use Rattle.j39_line_text.specs.declared.hindrances.Asked.TheVariants.{Times};
 ghost use Rattle.j39_stream.specs.CommandEnds.{AnswersWhole, IsOfAny};
@@ -34,7 +35,8 @@ fn verdict_of(reported: &[ReportedFinding]) -> Verdict
     }
 }
 
-// What is reported of the times of a line, where nothing stands in its way, and behind it the findings of which this says nothing.
+// What is reported of the times of a line, where nothing stands in its way, and behind it the findings of which this
+// says nothing.
 fn times_report(
     alloc: Global,
     line: &ProductLine,
@@ -42,7 +44,8 @@ fn times_report(
     reported: &[ReportedFinding],
     times: &LineTimes,
 ) -> ReportResult
-    ensures { IfOk result (λ report. (looked : Looked) → timing_of line.now.plan ≡ Some timing → IsShownLine Times line.now looked reported.now
+    ensures { IfOk result (λ report. (looked : Looked) → timing_of line.now.plan ≡ Some timing
+        → IsShownLine Times line.now looked reported.now
         → AreLookedTimes line.now looked times.now → IsTimesReport line.now timing report.0 report.1) }
 {
     times_bound_these();
@@ -62,7 +65,8 @@ fn found_load(
     looked: &LookedAt,
     times: &LineTimes,
 ) -> ReportResult
-    ensures { IfOk result (λ report. timing_of line.now.plan ≡ Some timing → AreReportedAt line.now looked.now reported.now
+    ensures { IfOk result (λ report. timing_of line.now.plan ≡ Some timing
+        → AreReportedAt line.now looked.now reported.now
         → AreLookedTimes line.now looked.now times.now → IsLineLoadReport line.now timing report.0 report.1) }
 {
     let many = looked.many();
@@ -76,7 +80,8 @@ fn found_load(
 
 // What is written of the load of a line of vehicles, with the verdict.
 fn line_load(alloc: Global, line: &ProductLine, timing: Timing) -> ReportResult
-    ensures { IfOk result (λ report. timing_of line.now.plan ≡ Some timing → IsLineLoadReport line.now timing report.0 report.1) }
+    ensures { IfOk result (λ report. timing_of line.now.plan ≡ Some timing
+        → IsLineLoadReport line.now timing report.0 report.1) }
 {
     let (answer, times) = check_line_with_times(alloc, line)?;
     match answer {
@@ -126,16 +131,17 @@ impl LineReport for TimesReport {
 
 /// Writes of each flow of the plan that a file describes how long its frames wait at most, that they aren't shown to be
 /// in time, or that it has no period, how much of the bus all flows take, and the findings of which these lines say
-/// nothing, of a line of vehicles the worst of the variants at which `check` looks; where a finding hides the times, or a
-/// line has too many full variants, what `check` writes, and how many these are; that nothing is known of its bus; or why
-/// the file describes no plan.
+/// nothing, of a line of vehicles the worst of the variants at which `check` looks; where a finding hides the times, or
+/// a line has too many full variants, what `check` writes, and how many these are; that nothing is known of its bus; or
+/// why the file describes no plan.
 #[inline(never)]
 pub fn load_line_text<S: Source, W: Sink>(
     alloc: Global,
     source: &mut S,
     sink: &mut W,
 ) -> CommandResult
-    ensures { AnswersWhole IsLineLoadText (IsOfAny IsLineLoadText) plan_limits (S.state source.old) (S.state source.new) W.state sink.old sink.new result }
+    ensures { AnswersWhole IsLineLoadText (IsOfAny IsLineLoadText) plan_limits (S.state source.old)
+        (S.state source.new) W.state sink.old sink.new result }
 {
     report_text(alloc, &TimesReport, source, sink)
 }

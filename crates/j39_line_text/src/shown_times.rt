@@ -1,7 +1,8 @@
 //! Which times of a line of vehicles are written.
 ghost use Rattle.std.specs.Prelude.{◌≡◌, IfOk, length, map};
 ghost use Rattle.std.specs.List.{range_with_len};
-ghost use Rattle.j39_line_text.specs.ShownTimes.{AreShownTimes, is_need_of, is_reported_unmet, shown_flow, shown_need, reports_unmet};
+ghost use Rattle.j39_line_text.specs.ShownTimes.{AreShownTimes, is_need_of, is_reported_unmet, shown_flow, shown_need};
+ghost use Rattle.j39_line_text.specs.ShownTimes.{reports_unmet};
 
 use crate::possible_places::{is_place_possible, possible_flows, possible_needs};
 use j39_findings::Finding;
@@ -70,7 +71,8 @@ fn shown_flows(
     possible: &[bool],
     times: &LineTimes,
 ) -> Result<Vec<FlowTime>, AllocError>
-    ensures { IfOk result (λ v. v.items ≡ map (shown_flow possible.now times.now) (range_with_len 0 (length times.now.flows.items))) }
+    ensures { IfOk result (λ v. v.items ≡ map (shown_flow possible.now times.now)
+        (range_with_len 0 (length times.now.flows.items))) }
 {
     (0..times.flows.len())
         .map(|place| shown_flow(possible, times, place))
@@ -83,15 +85,16 @@ fn shown_needs(
     times: &LineTimes,
     reported: &[ReportedFinding],
 ) -> Result<Vec<NeedTime>, AllocError>
-    ensures { IfOk result (λ v. v.items ≡ map (shown_need possible.now times.now reported.now) (range_with_len 0 (length times.now.needs.items))) }
+    ensures { IfOk result (λ v. v.items ≡ map (shown_need possible.now times.now reported.now)
+        (range_with_len 0 (length times.now.needs.items))) }
 {
     (0..times.needs.len())
         .map(|place| shown_need(possible, times, reported, place))
         .collect(alloc)
 }
 
-/// The times that are written of a line of which these were computed and this is found: that no possible variant has a flow
-/// or asks for a need, though a variant looked at does; and that a need is found to be unmet.
+/// The times that are written of a line of which these were computed and this is found: that no possible variant has a
+/// flow or asks for a need, though a variant looked at does; and that a need is found to be unmet.
 pub(crate) fn shown_times(
     alloc: Global,
     line: &ProductLine,

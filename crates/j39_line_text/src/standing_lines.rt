@@ -44,7 +44,8 @@ fn shown_standing(possible: &[bool], standings: &[LineStanding], place: usize) -
     }
 }
 
-/// What is written of each unit, where this is reported of it, and these say of each whether some possible variant has it.
+/// What is written of each unit, where this is reported of it, and these say of each whether some possible variant has
+/// it.
 pub(crate) fn shown_standings(
     alloc: Global,
     possible: &[bool],

@@ -2,7 +2,8 @@
 ghost use Rattle.std.specs.Prelude.{◌≡◌, ◌++◌, IfOk, OnOk, length};
 ghost use Rattle.std.specs.List.{list_any};
 ghost use Rattle.j39_variants.specs.VariantPlans.{flag_at};
-ghost use Rattle.j39_line_text.specs.WitnessLines.{alternative_label, findings_of_line_text, label_of_alternative, place_taken, run_of_line};
+ghost use Rattle.j39_line_text.specs.WitnessLines.{alternative_label, findings_of_line_text, label_of_alternative};
+ghost use Rattle.j39_line_text.specs.WitnessLines.{place_taken, run_of_line};
 ghost use Rattle.j39_line_text.specs.WitnessLines.{count_with, is_of_line_times, line_finding_text, many_text};
 ghost use Rattle.j39_line_text.specs.WitnessLines.{unshown_of_line_text, witness_line, witness_text};
 
@@ -202,7 +203,8 @@ fn write_all(
     text.end_line()
 }
 
-/// A line for each thing that is found of a line of vehicles, with what is reported of its witness, and how many there are.
+/// A line for each thing that is found of a line of vehicles, with what is reported of its witness, and how many there
+/// are.
 pub(crate) fn findings_text(
     alloc: Global,
     line: &ProductLine,
@@ -216,7 +218,8 @@ pub(crate) fn findings_text(
     Ok(text)
 }
 
-// Whether a finding is one of which the lines of the times report: of a bus that is too full, a late flow, or an old need.
+// Whether a finding is one of which the lines of the times report: of a bus that is too full, a late flow, or an old
+// need.
 fn is_of_times(finding: LineFinding) -> bool
     ensures { result ≡ is_of_line_times finding }
 {
@@ -241,8 +244,8 @@ impl WriteLines<ReportedFinding> for UnreportedReports<'_> {
     }
 }
 
-/// Writes a line for each thing that is found of a line of vehicles and isn't of its times, with what is reported of its
-/// witness, and how many there are, where there are any.
+/// Writes a line for each thing that is found of a line of vehicles and isn't of its times, with what is reported of
+/// its witness, and how many there are, where there are any.
 #[tactic(auto, unfolding(crate::specs::WitnessLines::unshown_of_line_text))]
 pub(crate) fn write_unshown(
     alloc: Global,

@@ -1,5 +1,6 @@
 -- What is asked for is what goes by conditions, where some variant meets one.
-use Rattle.std.proofs.Common.{◌≡◌, ◌⊎◌, ℕ, zero, suc, ◌+◌, ◌<◌, Bool, true, false, cond, if◌then◌else◌, List, [], ◌∷◌, ◌++◌, filter, length, Contains, refl, sym, ◌∙◌, ap, subst, inl, inr, arith}
+use Rattle.std.proofs.Common.{◌≡◌, ◌⊎◌, ℕ, zero, suc, ◌+◌, ◌<◌, Bool, true, false, cond, if◌then◌else◌, List, [], ◌∷◌, ◌++◌, filter, length, Contains, refl}
+use Rattle.std.proofs.Common.{sym, ◌∙◌, ap, subst, inl, inr, arith}
 use Rattle.std.specs.List.{range_with_len, slice_get}
 use Rattle.std.proofs.lemmas.Bool.{false≢true, true≢false}
 use Rattle.std.proofs.lemmas.List.FromFn.{get_or-range_with_len, length-range_with_len}
@@ -111,7 +112,8 @@ module _ (line : ProductLine) where
   abbrev GoesAndMayBe : LineFinding → Type 0
   GoesAndMayBe finding = (goes_by_conditions line finding ≡ true) × MayBeFound line finding
 
-  of_places : (make : ℕ → LineFinding) → ((k : ℕ) → GoesAndMayBe (make k)) → (n : ℕ) (finding : LineFinding) → IsFound (of_each_place make n) finding → GoesAndMayBe finding
+  of_places : (make : ℕ → LineFinding) → ((k : ℕ) → GoesAndMayBe (make k)) → (n : ℕ) (finding : LineFinding) → IsFound (of_each_place make n) finding
+      → GoesAndMayBe finding
   of_places make each n finding one =
       let its = made_of make (range_with_len 0 n) finding one in
       subst GoesAndMayBe its.made (each its.value)
@@ -169,7 +171,8 @@ module _ (line : ProductLine) where
     unmet d met =
         let its = of_some (meets_condition line v) (unmet_condition line d) (slice_get line.plan.needs.items d) met in
         one_right of_groups (of_flows ++ (of_needs ++ candidates_of_requests line)) (OfPlan (NeedUnmet d))
-        (one_right of_flows (of_needs ++ candidates_of_requests line) (OfPlan (NeedUnmet d)) (one_left of_needs (candidates_of_requests line) (OfPlan (NeedUnmet d))
+        (one_right of_flows (of_needs ++ candidates_of_requests line) (OfPlan (NeedUnmet d))
+        (one_left of_needs (candidates_of_requests line) (OfPlan (NeedUnmet d))
         (placed (λ k. OfPlan (NeedUnmet k)) (length line.plan.needs.items) d (slice_get_within line.plan.needs.items d its.value its.value_is))))
 
     behind_needs : (finding : LineFinding) → IsFound (candidates_of_requests line) finding → Behind finding
@@ -225,7 +228,8 @@ module _ (line : ProductLine) where
     asked (SilentInPool u) goes met = inl refl
     asked (FlowContested f) goes met = inl goes
 
-    pub is_candidate : (finding : LineFinding) → goes_by_conditions line finding ≡ true → MayBeFound line finding → meets_any line v (conditions_of line finding) ≡ true
+    pub is_candidate : (finding : LineFinding) → goes_by_conditions line finding ≡ true → MayBeFound line finding
+        → meets_any line v (conditions_of line finding) ≡ true
         → IsFound (candidates line) finding
     is_candidate (OfPlan x) goes may met = elim (asked x goes met) [
       | inr behind ↦ one_right (candidates_of_parts line) behind_parts (OfPlan x) behind

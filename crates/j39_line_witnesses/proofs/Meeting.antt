@@ -1,6 +1,7 @@
 -- Who is in the box of parts and in none of those of others meets the condition that the former are there, and the others aren't.
 use Rattle.std.specs.declared.alloc.Global.{Global}
-use Rattle.std.proofs.Common.{◌≡◌, ℕ, ◌+◌, Bool, true, false, not, ◌&&◌, ◌||◌, List, [], ◌∷◌, ◌++◌, Option, Some, None, Vec, MatchBool, MatchOption, is_some, length, inl, inr, refl, sym, ◌∙◌, ap, subst, take}
+use Rattle.std.proofs.Common.{◌≡◌, ℕ, ◌+◌, Bool, true, false, not, ◌&&◌, ◌||◌, List, [], ◌∷◌, ◌++◌, Option, Some, None, Vec, MatchBool, MatchOption, is_some}
+use Rattle.std.proofs.Common.{length, inl, inr, refl, sym, ◌∙◌, ap, subst, take}
 use Rattle.std.specs.List.{list_any}
 use Rattle.std.proofs.lemmas.Bool.{and_from, and_parts, cases_Bool, false≢true, or_left}
 use Rattle.std.proofs.Math.Seq.{take-append_seam}
@@ -75,7 +76,8 @@ module _ (line : ProductLine) (v : List ℕ) (is : IsVariant line.choices.items 
   in_hole parts = elim (cases_Bool (are_parts_known line parts)) [
     | inl known ↦ rw known (last (inside (parts_box line parts)) ∙ parts_within parts known)
     | inr unknown ↦
-        let none : are_there line v parts ≡ false = never_true (are_there line v parts) (are_parts_known line parts) (parts_shown line v is parts).known_so unknown in
+        let none : are_there line v parts ≡ false = never_true (are_there line v parts) (are_parts_known line parts)
+        (parts_shown line v is parts).known_so unknown in
         rw unknown (sym none)
   ]
     where
@@ -149,7 +151,8 @@ module _ (line : ProductLine) (presence : Presence) (known : are_parts_known lin
   outside_meets v out =
       let is = within_variant (do_all_let_in line presence.together.items) line.choices.items v out.in_box in
       let there : are_there line v presence.together.items ≡ true = sym (parts_within line v is presence.together.items known) ∙ out.in_box in
-      let none = none_of_both (is_possible line.nevers.items v) (list_any (are_there line v) (parts_in presence.lacking.items)) (sym (in_none_of v is) ∙ out.in_none) in (
+      let none = none_of_both (is_possible line.nevers.items v) (list_any (are_there line v) (parts_in presence.lacking.items))
+      (sym (in_none_of v is) ∙ out.in_none) in (
         record { is_variant = is; possible = none.0 },
         or_left (meets_condition line v (condition_of presence)) false
             (and_from (are_there line v presence.together.items) (not (list_any (are_there line v) (parts_in presence.lacking.items))) there (ap not none.1)),

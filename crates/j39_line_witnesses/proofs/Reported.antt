@@ -35,7 +35,8 @@ not_reported : (line : ProductLine) (reported : List FoundByCondition) → repor
 not_reported line [] none one at = at
 not_reported line (w ∷ reported) none one at = cc
 
-sound_of : (line : ProductLine) (findings : List LineFinding) (reported : List FoundByCondition) → AreWitnessed line findings reported → (one : FoundByCondition)
+sound_of : (line : ProductLine) (findings : List LineFinding) (reported : List FoundByCondition) → AreWitnessed line findings reported
+    → (one : FoundByCondition)
     → IsReportedAmong reported one → IsFound findings one.finding × IsFirstMeeting line (conditions_of line one.finding) one.witness.items
 sound_of line [] reported are one at = absurd (not_reported line reported are one at)
 sound_of line (f ∷ findings) reported are one at = elim are [

@@ -1,10 +1,12 @@
 //! Which findings of a line are asked for.
 ghost use Rattle.std.specs.Prelude.{◌≡◌, IfOk, length};
-ghost use Rattle.j39_findings.specs.declared.checking.finding.Finding.TheVariants.{AnswerAstray, NeedUnmet, PrivateUnsent};
+ghost use Rattle.j39_findings.specs.declared.checking.finding.Finding.TheVariants.{AnswerAstray, NeedUnmet};
+ghost use Rattle.j39_findings.specs.declared.checking.finding.Finding.TheVariants.{PrivateUnsent};
 ghost use Rattle.j39_findings.specs.declared.checking.finding.Finding.TheVariants.{RequestUnanswered, RequestUnheard};
 ghost use Rattle.j39_load.specs.declared.findings.load_finding.LoadFinding.TheVariants.{NoPeriod};
 ghost use Rattle.j39_line_findings.specs.declared.line_finding.LineFinding.TheVariants.{OfPlan, OfLoad};
-ghost use Rattle.j39_line_witnesses.specs.Candidates.{candidates, candidates_of_parts, candidates_of_requests, is_of_parts, of_each_place};
+ghost use Rattle.j39_line_witnesses.specs.Candidates.{candidates, candidates_of_parts, candidates_of_requests};
+ghost use Rattle.j39_line_witnesses.specs.Candidates.{is_of_parts, of_each_place};
 
 use j39_findings::{Finding, check};
 use j39_line_findings::{LineFinding, has_end_in_pool};
@@ -44,7 +46,8 @@ fn of_parts(alloc: Global, line: &ProductLine) -> Result<Vec<LineFinding>, Alloc
 }
 
 fn of_groups(alloc: Global, line: &ProductLine) -> Result<Vec<LineFinding>, AllocError>
-    ensures { IfOk result (λ v. v.items ≡ of_each_place (λ g. OfPlan (PrivateUnsent g)) (length line.now.plan.groups.items)) }
+    ensures { IfOk result (λ v. v.items ≡ of_each_place (λ g. OfPlan (PrivateUnsent g))
+        (length line.now.plan.groups.items)) }
 {
     (0..line.plan.groups.len())
         .map(|group| LineFinding::OfPlan(Finding::PrivateUnsent(group)))
@@ -60,7 +63,8 @@ fn of_flows(alloc: Global, line: &ProductLine) -> Result<Vec<LineFinding>, Alloc
 }
 
 fn of_needs(alloc: Global, line: &ProductLine) -> Result<Vec<LineFinding>, AllocError>
-    ensures { IfOk result (λ v. v.items ≡ of_each_place (λ d. OfPlan (NeedUnmet d)) (length line.now.plan.needs.items)) }
+    ensures { IfOk result (λ v. v.items ≡ of_each_place (λ d. OfPlan (NeedUnmet d))
+        (length line.now.plan.needs.items)) }
 {
     (0..line.plan.needs.len())
         .map(|need| LineFinding::OfPlan(Finding::NeedUnmet(need)))
@@ -101,8 +105,8 @@ fn of_requests(alloc: Global, line: &ProductLine) -> Result<Vec<LineFinding>, Al
     Ok(all)
 }
 
-/// Each finding that some variant of the line can have by what is there and what isn't: of those of the whole file those
-/// that name what has to be there, and of each group, flow, need and request those that say what isn't.
+/// Each finding that some variant of the line can have by what is there and what isn't: of those of the whole file
+/// those that name what has to be there, and of each group, flow, need and request those that say what isn't.
 pub fn candidates(alloc: Global, line: &ProductLine) -> Result<Vec<LineFinding>, AllocError>
     ensures { IfOk result (λ v. v.items ≡ candidates line.now) }
 {

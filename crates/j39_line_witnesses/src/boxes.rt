@@ -2,7 +2,8 @@
 ghost use Rattle.std.specs.Prelude.{◌≡◌, ◌++◌, IfOk, OnOk};
 ghost use Rattle.j39_variant_search.specs.VariantSearch.{box_flags, boxes_flags};
 ghost use Rattle.j39_line_findings.specs.KnownParts.{do_all_let_in};
-ghost use Rattle.j39_line_witnesses.specs.PartBoxes.{box_test, flags_by, flags_of_choice, hole_of, holes_of_parts, is_test_known};
+ghost use Rattle.j39_line_witnesses.specs.PartBoxes.{box_test, flags_by, flags_of_choice, hole_of, holes_of_parts};
+ghost use Rattle.j39_line_witnesses.specs.PartBoxes.{is_test_known};
 ghost use Rattle.j39_line_witnesses.specs.PartBoxes.{list_box, never_holes, parts_box};
 
 use crate::known::{are_parts_known, is_list_known};
@@ -67,7 +68,8 @@ fn flags_by(
     line: &ProductLine,
     test: &BoxTest<'_>,
 ) -> Result<Vec<Vec<bool>>, AllocError>
-    ensures { IfOk result (λ flags. box_flags flags.items ≡ flags_by (box_test line.now test.now) line.now.choices.items) }
+    ensures { IfOk result (λ flags. box_flags flags.items ≡ flags_by
+        (box_test line.now test.now) line.now.choices.items) }
 {
     let mut flags = Vec::new(alloc);
     for (choice, reported) in line.choices.iter().enumerate() {
@@ -132,7 +134,8 @@ pub(crate) fn add_holes(
     holes: &mut Vec<Vec<Vec<bool>>>,
     lacking: &[Vec<LinePart>],
 ) -> Result<(), AllocError>
-    ensures { OnOk result (boxes_flags holes.new.items ≡ boxes_flags holes.old.items ++ holes_of_parts line.now lacking.now) }
+    ensures { OnOk result (boxes_flags holes.new.items ≡ boxes_flags holes.old.items
+        ++ holes_of_parts line.now lacking.now) }
 {
     for parts in lacking {
         add_hole(alloc, line, holes, &BoxTest::OfParts(parts))?;

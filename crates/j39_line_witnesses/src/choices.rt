@@ -9,9 +9,12 @@ ghost use Rattle.j39_line_findings.specs.declared.line_finding.LineFinding.TheVa
 ghost use Rattle.j39_variant_search.specs.VariantSearch.{box_flags};
 ghost use Rattle.j39_line_witnesses.specs.PartBoxes.{parts_box};
 ghost use Rattle.j39_line_witnesses.specs.Presences.{condition_of, conditions_in};
-ghost use Rattle.j39_line_witnesses.specs.ReportedChoices.{asking_part, asking_parts, choices_by, choices_counted, choices_if_met, choices_met};
-ghost use Rattle.j39_line_witnesses.specs.ReportedChoices.{choices_of_condition, choices_of_parts, counted_parts, counted_with};
-ghost use Rattle.j39_line_witnesses.specs.ReportedChoices.{is_in_some, is_none, lacking_choices, parts_of_asked, reported_choices};
+ghost use Rattle.j39_line_witnesses.specs.ReportedChoices.{asking_part, asking_parts, choices_by, choices_counted};
+ghost use Rattle.j39_line_witnesses.specs.ReportedChoices.{choices_if_met, choices_met};
+ghost use Rattle.j39_line_witnesses.specs.ReportedChoices.{choices_of_condition, choices_of_parts, counted_parts};
+ghost use Rattle.j39_line_witnesses.specs.ReportedChoices.{counted_with};
+ghost use Rattle.j39_line_witnesses.specs.ReportedChoices.{is_in_some, is_none, lacking_choices, parts_of_asked};
+ghost use Rattle.j39_line_witnesses.specs.ReportedChoices.{reported_choices};
 
 use crate::boxes::parts_box;
 use crate::conditions::conditions_of;
@@ -91,7 +94,8 @@ fn add_all_counted(
     lacking: &[Vec<LinePart>],
 ) -> Result<(), AllocError>
     ensures { OnOk result (counted.new.items
-        ≡ counted.old.items ++ lines_of_each (λ _ parts. counted_with line.now together.now parts.items) 0 lacking.now) }
+        ≡ counted.old.items
+        ++ lines_of_each (λ _ parts. counted_with line.now together.now parts.items) 0 lacking.now) }
 {
     for parts in lacking {
         add_counted(alloc, line, counted, together, parts)?;
@@ -148,7 +152,8 @@ fn add_met(
     met: &mut Vec<Vec<bool>>,
     condition: &Presence,
 ) -> Result<(), AllocError>
-    ensures { OnOk result (box_flags met.new.items ≡ box_flags met.old.items ++ choices_if_met line.now variant.now (condition_of condition.now)) }
+    ensures { OnOk result (box_flags met.new.items ≡ box_flags met.old.items
+        ++ choices_if_met line.now variant.now (condition_of condition.now)) }
 {
     if meets_condition(line, variant, condition) {
         let parts = counted_parts(alloc, line, condition)?;
@@ -165,7 +170,8 @@ fn each_met(
     conditions: &[Presence],
 ) -> Result<Vec<Vec<bool>>, AllocError>
     ensures { IfOk result (λ met. box_flags met.items
-        ≡ lines_of_each (λ _ condition. choices_if_met line.now variant.now (condition_of condition)) 0 conditions.now) }
+        ≡ lines_of_each (λ _ condition. choices_if_met line.now variant.now
+        (condition_of condition)) 0 conditions.now) }
 {
     let mut met = Vec::new(alloc);
     for condition in conditions {
@@ -181,7 +187,8 @@ fn choices_met(
     variant: &[usize],
     conditions: &[Presence],
 ) -> Result<Vec<Vec<bool>>, AllocError>
-    ensures { IfOk result (λ met. box_flags met.items ≡ choices_met line.now variant.now (conditions_in conditions.now)) }
+    ensures { IfOk result (λ met. box_flags met.items ≡ choices_met line.now variant.now
+        (conditions_in conditions.now)) }
 {
     let met = each_met(alloc, line, variant, conditions)?;
     Ok(met)

@@ -1,7 +1,9 @@
 //! On which conditions a variant of a line of vehicles has a finding that doesn't count what is there.
 ghost use Rattle.std.specs.Prelude.{◌≡◌, ◌++◌, [], IfOk, OnOk};
-ghost use Rattle.j39_findings.specs.declared.checking.finding.Finding.TheVariants.{AnswerAstray, FlowContested, NeedUnmet};
-ghost use Rattle.j39_findings.specs.declared.checking.finding.Finding.TheVariants.{PrivateUnsent, RequestUnanswered, RequestUnheard};
+ghost use Rattle.j39_findings.specs.declared.checking.finding.Finding.TheVariants.{AnswerAstray, FlowContested};
+ghost use Rattle.j39_findings.specs.declared.checking.finding.Finding.TheVariants.{NeedUnmet};
+ghost use Rattle.j39_findings.specs.declared.checking.finding.Finding.TheVariants.{PrivateUnsent, RequestUnanswered};
+ghost use Rattle.j39_findings.specs.declared.checking.finding.Finding.TheVariants.{RequestUnheard};
 ghost use Rattle.j39_load.specs.declared.findings.load_finding.LoadFinding.TheVariants.{NoPeriod};
 ghost use Rattle.j39_load.specs.LineLists.{lines_of_each};
 ghost use Rattle.j39_line_findings.specs.Conditions.{astray_by, conditions_of, conditions_of_load, conditions_of_plan};
@@ -49,7 +51,8 @@ fn add_astray_by(
     flow: &FlowPlan,
 ) -> Result<(), AllocError>
     ensures { OnOk result (conditions_in found.new.items ≡ conditions_in found.old.items ++ astray_by line.now place
-        (flow_test line.now.plan.groups.items one.now) (flow_test line.now.plan.groups.items other.now) answered flow.now) }
+        (flow_test line.now.plan.groups.items one.now)
+        (flow_test line.now.plan.groups.items other.now) answered flow.now) }
 {
     if one.holds(&line.plan.groups, flow) {
         let flows = flows_where(alloc, line, other)?;
@@ -71,7 +74,8 @@ fn astray_by_each(
     other: &FlowTest,
 ) -> ConditionList
     ensures { IfOk result (λ v. conditions_in v.items ≡ lines_of_each (astray_by line.now place
-        (flow_test line.now.plan.groups.items one.now) (flow_test line.now.plan.groups.items other.now)) 0 line.now.plan.flows.items) }
+        (flow_test line.now.plan.groups.items one.now)
+        (flow_test line.now.plan.groups.items other.now)) 0 line.now.plan.flows.items) }
 {
     let mut found = Vec::new(alloc);
     for (answered, flow) in line.plan.flows.iter().enumerate() {
@@ -97,7 +101,8 @@ fn add_contested_by(
     flow: &FlowPlan,
     unit: usize,
 ) -> Result<(), AllocError>
-    ensures { OnOk result (conditions_in found.new.items ≡ conditions_in found.old.items ++ contested_by line.now place flow.now unit) }
+    ensures { OnOk result (conditions_in found.new.items ≡ conditions_in found.old.items
+        ++ contested_by line.now place flow.now unit) }
 {
     if is_beside_end(line, flow, unit) {
         add_together(alloc, found, &[LinePart::Flow(place), LinePart::Unit(unit)])?;

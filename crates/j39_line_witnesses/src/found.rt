@@ -59,7 +59,8 @@ fn found_of(
     Ok(reported)
 }
 
-/// Each finding that goes by conditions, and that some possible variant of the line has, with the first one that has it.
+/// Each finding that goes by conditions, and that some possible variant of the line has, with the first one that has
+/// it.
 pub fn found_by_conditions(
     alloc: Global,
     line: &ProductLine,

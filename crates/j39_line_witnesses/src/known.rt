@@ -1,8 +1,10 @@
-//! Whether the lists of what stands in the file name only choices that the line has. What names another one is there in no
-//! variant.
+//! Whether the lists of what stands in the file name only choices that the line has. What names another one is there in
+//! no variant.
 ghost use Rattle.std.specs.Prelude.{◌≡◌};
-ghost use Rattle.j39_line_findings.specs.KnownParts.{are_parts_known, is_flow_known, is_group_known, is_list_known, is_list_known_at};
-ghost use Rattle.j39_line_findings.specs.KnownParts.{is_need_known, is_part_known, is_receiver_known, is_request_known, is_unit_known};
+ghost use Rattle.j39_line_findings.specs.KnownParts.{are_parts_known, is_flow_known, is_group_known, is_list_known};
+ghost use Rattle.j39_line_findings.specs.KnownParts.{is_list_known_at};
+ghost use Rattle.j39_line_findings.specs.KnownParts.{is_need_known, is_part_known, is_receiver_known, is_request_known};
+ghost use Rattle.j39_line_findings.specs.KnownParts.{is_unit_known};
 
 use j39_line_findings::LinePart;
 use j39_network::To;

@@ -1,8 +1,8 @@
 //! Laws of boxes, and of what is found by conditions.
 ghost use Rattle.j39_line_witnesses.specs.WitnessLaws.{BoxesAreExact, WitnessedAreExact};
 
-/// A variant of a line is in the box of parts exactly where each of them is there, and in the box of a list where the list
-/// has it; with parts and lists that name no choice but the line's. Others are there in no variant.
+/// A variant of a line is in the box of parts exactly where each of them is there, and in the box of a list where the
+/// list has it; with parts and lists that name no choice but the line's. Others are there in no variant.
 pub fn boxes_are_exact()
     ensures { BoxesAreExact }
 {}

@@ -46,7 +46,8 @@ pub(crate) fn flows_where(
     line: &ProductLine,
     test: &FlowTest,
 ) -> Result<Vec<Vec<LinePart>>, AllocError>
-    ensures { IfOk result (λ v. parts_in v.items ≡ flows_where line.now (flow_test line.now.plan.groups.items test.now)) }
+    ensures { IfOk result (λ v. parts_in v.items ≡ flows_where line.now
+        (flow_test line.now.plan.groups.items test.now)) }
 {
     let mut found = Vec::new(alloc);
     for (place, flow) in line.plan.flows.iter().enumerate() {
@@ -63,7 +64,8 @@ fn add_answer(
     asked: usize,
     request: &RequestPlan,
 ) -> Result<(), AllocError>
-    ensures { OnOk result (parts_in found.new.items ≡ parts_in found.old.items ++ answer_with place flow.now asked request.now) }
+    ensures { OnOk result (parts_in found.new.items ≡ parts_in found.old.items
+        ++ answer_with place flow.now asked request.now) }
 {
     if serves(request, flow) {
         add_parts(
@@ -100,7 +102,8 @@ fn add_source(
     place: usize,
     flow: &FlowPlan,
 ) -> Result<(), AllocError>
-    ensures { OnOk result (parts_in found.new.items ≡ parts_in found.old.items ++ source_parts line.now need.now place flow.now) }
+    ensures { OnOk result (parts_in found.new.items ≡ parts_in found.old.items
+        ++ source_parts line.now need.now place flow.now) }
 {
     if !does_bring(need, flow) {
         return Ok(());
@@ -112,8 +115,8 @@ fn add_source(
     }
 }
 
-/// The flows that bring what is needed, each by itself, or with each request that it answers, where it is sent only as an
-/// answer.
+/// The flows that bring what is needed, each by itself, or with each request that it answers, where it is sent only as
+/// an answer.
 pub(crate) fn sources_of(
     alloc: Global,
     line: &ProductLine,

@@ -31,7 +31,8 @@ pub fn is_earlier(one: &[usize], other: &[usize]) -> bool
 /// The earlier of the first variants that meet some conditions, and others.
 #[tactic(auto, using(crate::proofs::Earlier::none_left, crate::proofs::Earlier::none_right))]
 pub(crate) fn earlier_of(one: Option<Vec<usize>>, other: Option<Vec<usize>>) -> Option<Vec<usize>>
-    ensures { (line : ProductLine) (some others : List Condition) → IsWitnessOf line some one → IsWitnessOf line others other
+    ensures { (line : ProductLine) (some others : List Condition) → IsWitnessOf line some one
+        → IsWitnessOf line others other
         → IsWitnessOf line (some ++ others) result }
 {
     match one {

@@ -27,7 +27,8 @@ fn is_part_possible(
     Ok(first.is_some())
 }
 
-/// Of each of these parts, in order, whether some possible variant of the line has it; of a need, whether one asks for it.
+/// Of each of these parts, in order, whether some possible variant of the line has it; of a need, whether one asks for
+/// it.
 pub fn possible_parts(
     alloc: Global,
     line: &ProductLine,

@@ -48,7 +48,8 @@ pub(crate) fn where_lacking(
     parts: &[LinePart],
     lacking: Vec<Vec<LinePart>>,
 ) -> ConditionList
-    ensures { IfOk result (λ v. conditions_in v.items ≡ record { together = parts.now; lacking = parts_in lacking.items } ∷ []) }
+    ensures { IfOk result (λ v. conditions_in v.items ≡ record
+        { together = parts.now; lacking = parts_in lacking.items } ∷ []) }
 {
     let mut found = Vec::new(alloc);
     add_lacking(alloc, &mut found, parts, lacking)?;

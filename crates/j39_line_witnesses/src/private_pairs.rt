@@ -1,7 +1,8 @@
 //! On which conditions two groups of one number are found.
 ghost use Rattle.std.specs.Prelude.{◌≡◌, ◌++◌, ◌∷◌, ◌&&◌, [], IfOk, OnOk, if◌then◌else◌};
 ghost use Rattle.j39_load.specs.LineLists.{lines_of_each};
-ghost use Rattle.j39_line_findings.specs.Conditions.{conditions_of_groups, sent_together, sent_with, sent_with_any, where_together};
+ghost use Rattle.j39_line_findings.specs.Conditions.{conditions_of_groups, sent_together, sent_with, sent_with_any};
+ghost use Rattle.j39_line_findings.specs.Conditions.{where_together};
 ghost use Rattle.j39_line_findings.specs.declared.part.LinePart.TheVariants.{Group};
 ghost use Rattle.j39_line_witnesses.specs.Presences.{conditions_in};
 
@@ -58,7 +59,8 @@ impl PrivatePair<'_> {
         flow: &FlowPlan,
     ) -> Result<(), AllocError>
         ensures { OnOk result (conditions_in found.new.items ≡ conditions_in found.old.items
-            ++ lines_of_each (sent_with self.now.line.now self.now.first self.now.second self.now.group.now self.now.other.now place flow.now)
+            ++ lines_of_each
+            (sent_with self.now.line.now self.now.first self.now.second self.now.group.now self.now.other.now place flow.now)
             0 self.now.line.now.plan.flows.items) }
     {
         for (at, beside) in self.line.plan.flows.iter().enumerate() {
@@ -105,7 +107,8 @@ fn conditions_of_both(
     other: &GroupPlan,
 ) -> ConditionList
     ensures { IfOk result (λ v. conditions_in v.items ≡ if group.now.private && other.now.private
-        then sent_together line.now first second group.now other.now else where_together (Group first ∷ Group second ∷ [])) }
+        then sent_together line.now first second group.now other.now
+        else where_together (Group first ∷ Group second ∷ [])) }
 {
     if group.private && other.private {
         let pair = PrivatePair {
@@ -121,8 +124,8 @@ fn conditions_of_both(
     }
 }
 
-/// On which conditions two groups of one number are found: both are there, and of two private ones two flows by which one
-/// unit sends both to receivers that meet.
+/// On which conditions two groups of one number are found: both are there, and of two private ones two flows by which
+/// one unit sends both to receivers that meet.
 pub(crate) fn conditions_of_groups(
     alloc: Global,
     line: &ProductLine,

@@ -75,7 +75,8 @@ pub(crate) fn first_having(
 
 /// Whether some variant of the line is possible.
 pub fn is_any_variant_possible(alloc: Global, line: &ProductLine) -> Result<bool, AllocError>
-    ensures { IfOk result (λ found. MatchBool found ((v : List ℕ) × IsPossible line.now v) ((v : List ℕ) → IsPossible line.now v → ⊥)) }
+    ensures { IfOk result (λ found. MatchBool found ((v : List ℕ) × IsPossible line.now v)
+        ((v : List ℕ) → IsPossible line.now v → ⊥)) }
 {
     let mut holes = never_holes(alloc, line)?;
     let conditions = where_together(alloc, &[])?;

@@ -1,5 +1,6 @@
 -- How old what a unit needs is at most.
-use Rattle.std.proofs.Common.{◌≡◌, ℕ, suc, if◌then◌else◌, ◌+◌, ◌*◌, ◌<◌, ◌≤◌, ◌⊎◌, Bool, true, false, not, ◌&&◌, List, [], ◌∷◌, ◌++◌, length, get_or, Option, Some}
+use Rattle.std.proofs.Common.{◌≡◌, ℕ, suc, if◌then◌else◌, ◌+◌, ◌*◌, ◌<◌, ◌≤◌, ◌⊎◌, Bool, true, false, not, ◌&&◌, List, [], ◌∷◌, ◌++◌, length, get_or, Option}
+use Rattle.std.proofs.Common.{Some}
 use Rattle.std.proofs.Common.{None, refl, sym, ap, ◌∙◌, subst, inl, inr, arith}
 use Rattle.std.proofs.lemmas.Bool.{cases_Bool, cases_lt, false≢true, leb-true, true≢false}
 use Rattle.std.proofs.lemmas.List.{length-map}
@@ -111,7 +112,8 @@ never_stated : {X : Type 0} (test : Bool) (x : X) → (if test then x ∷ [] els
 never_stated true x none = cc
 never_stated false x none = refl
 
-asked_old : (timing : Timing) (requests : List RequestPlan) (flows : List FlowPlan) (delays : List (Option Delay)) (place : ℕ) (need : NeedPlan) (within : ℕ) (asked : Option ℕ)
+asked_old : (timing : Timing) (requests : List RequestPlan) (flows : List FlowPlan) (delays : List (Option Delay)) (place : ℕ) (need : NeedPlan) (within : ℕ)
+    (asked : Option ℕ)
     → asked ≡ Some within
     → option_map_or (λ w. if is_too_old timing requests flows delays need w then NeedTooOld place ∷ [] else []) asked [] ≡ []
     → is_too_old timing requests flows delays need within ≡ false
@@ -163,12 +165,14 @@ module _ (plan : Plan) (timing : Timing) (stays : UnitPlan → Bool) (delays : L
             (bound.bounds ordered s planned of legal known) coming seen);
       }
 
-module _ (plan : Plan) (timing : Timing) (clean : Clean plan) (stays : UnitPlan → Bool) (delays : List (Option Delay)) (asks : AsksOfBus plan timing stays delays)
+module _ (plan : Plan) (timing : Timing) (clean : Clean plan) (stays : UnitPlan → Bool) (delays : List (Option Delay))
+    (asks : AsksOfBus plan timing stays delays)
     (none : load_findings timing (total_load timing (asked_of timing plan stays)) delays ++ further_findings plan timing delays ≡ []) where
   parts : (load_findings timing (total_load timing (asked_of timing plan stays)) delays ≡ [])
       × (old_needs timing plan.requests.items plan.flows.items delays plan.needs.items ≡ [])
   parts =
-      let (now, further) = none_of_two (load_findings timing (total_load timing (asked_of timing plan stays)) delays) (further_findings plan timing delays) none in (
+      let (now, further) = none_of_two (load_findings timing (total_load timing (asked_of timing plan stays)) delays) (further_findings plan timing delays) none
+      in (
         now,
         (none_of_two (old_needs timing plan.requests.items plan.flows.items delays plan.needs.items)
             (flows_asked_too_often plan.requests.items plan.flows.items) further).0,

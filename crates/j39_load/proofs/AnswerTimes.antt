@@ -83,7 +83,8 @@ module _ (timing : Timing) where
         (let sum = all_parts period periods in
         let few : asked_parts period periods ≤ whole_parts periods = elim (cases_lt (whole_parts periods) (asked_parts period periods)) [
           | inr within ↦ within
-          | inl more ↦ absurd (both_ways (ltb (whole_parts periods) (asked_parts period periods)) no_more (lt-ltb (whole_parts periods) (asked_parts period periods) more))
+          | inl more ↦ absurd (both_ways (ltb (whole_parts periods) (asked_parts period periods)) no_more
+              (lt-ltb (whole_parts periods) (asked_parts period periods) more))
         ] in
         let scale : 1000 * shortest_million timing * asked_parts period periods ≤ 1000 * shortest_million timing * whole_parts periods =
         mul-le-mul_left (1000 * shortest_million timing) few in

@@ -86,7 +86,8 @@ module _ (plan : Plan) where
   request_of (Announcing u m) = 0
   request_of (Carrying u m k) = 0
 
-  its_request : (f : ℕ) (flow : FlowPlan) (x : Source) → slice_get plan.flows.items f ≡ Some flow → IsOfFlow f x → request_of x ≡ first_asking plan.requests.items flow
+  its_request : (f : ℕ) (flow : FlowPlan) (x : Source) → slice_get plan.flows.items f ≡ Some flow → IsOfFlow f x
+      → request_of x ≡ first_asking plan.requests.items flow
   its_request f flow (Single g) its is = ap first_of_flow is ∙ ap (λ (o : Option FlowPlan). option_map_or (first_asking plan.requests.items) o 0) its
   its_request f flow (First g) its is = ap first_of_flow is ∙ ap (λ (o : Option FlowPlan). option_map_or (first_asking plan.requests.items) o 0) its
   its_request f flow (InSession g part) its is = ap first_of_flow is ∙ ap (λ (o : Option FlowPlan). option_map_or (first_asking plan.requests.items) o 0) its
@@ -116,9 +117,11 @@ module _ (plan : Plan) where
 module _ (plan : Plan) (timing : Timing) (s : Schedule) (sent : FrameSources) (held : Held)
     (frames : (p : ℕ) → p < s.count → IsFrameOf plan timing s held sent.broadcasts (sent.source p) (sent.release p) p)
     (broadcasts : KeepsBroadcasts plan timing s all_planned sent) (number : ℕ → ℕ)
-    (few : (p f : ℕ) (answering : IsAnswering plan f) → p < s.count → IsOfFlow f (sent.source p) → is_asked_too_often plan.requests.items answering.flow ≡ false)
+    (few : (p f : ℕ) (answering : IsAnswering plan f) → p < s.count → IsOfFlow f (sent.source p)
+    → is_asked_too_often plan.requests.items answering.flow ≡ false)
     (once : (p q : ℕ) → p < s.count → q < s.count → sent.source p ≡ sent.source q → number p ≡ number q → p ≡ q)
-    (apart : (p q f : ℕ) (answering : IsAnswering plan f) → p < s.count → q < s.count → IsOfFlow f (sent.source p) → IsOfFlow f (sent.source q) → number p ≤ number q
+    (apart : (p q f : ℕ) (answering : IsAnswering plan f) → p < s.count → q < s.count → IsOfFlow f (sent.source p) → IsOfFlow f (sent.source q)
+    → number p ≤ number q
     → IsMsBehind timing ((number q - number p) * first_period plan.requests.items answering.flow) (sent.release p) (sent.release q))
     (few_messages : (u m f : ℕ) (answering : IsAnswering plan f) → m < sent.broadcasts.count u → sent.broadcasts.flow u m ≡ f
     → is_asked_too_often plan.requests.items answering.flow ≡ false)
@@ -137,7 +140,8 @@ module _ (plan : Plan) (timing : Timing) (s : Schedule) (sent : FrameSources) (h
   released (Announcing u m) release p f is one = absurd is
   released (Carrying u m k) release p f is one = absurd is
 
-  same_pace : (f g : ℕ) (answering : IsAnswering plan f) (flow : FlowPlan) (pace : Pace) → g ≡ f → slice_get plan.flows.items g ≡ Some flow → flow.pace ≡ Some pace
+  same_pace : (f g : ℕ) (answering : IsAnswering plan f) (flow : FlowPlan) (pace : Pace) → g ≡ f → slice_get plan.flows.items g ≡ Some flow
+      → flow.pace ≡ Some pace
       → pace ≡ answering.pace
   same_pace f g answering flow pace same its paced =
       let one : flow ≡ answering.flow = same_Some _ _ (sym its ∙ (ap (slice_get plan.flows.items) same ∙ answering.its)) in
@@ -187,7 +191,8 @@ module _ (plan : Plan) (timing : Timing) (s : Schedule) (sent : FrameSources) (h
     few = λ m is. few_messages u m f answering is.0 is.1;
     asked = λ m is. (
       first_period plan.requests.items answering.flow,
-      subst (λ (r : ℕ). IsAskedEvery plan answering.flow r (first_period plan.requests.items answering.flow)) (sym (request_is m is.1)) (first_is plan f answering),
+      subst (λ (r : ℕ). IsAskedEvery plan answering.flow r (first_period plan.requests.items answering.flow)) (sym (request_is m is.1))
+          (first_is plan f answering),
     );
     moment_first = λ m is. (broadcasts.messages u m is.0).release_first;
     in_time = λ m is.

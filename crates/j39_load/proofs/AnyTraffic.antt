@@ -96,7 +96,8 @@ module _ (timing : Timing) (ends : ℕ) (asked : List (Option FlowFrames)) (pace
         subst (λ (g : FlowFrames). part (planned_at all (length asked + n)) (buffered_for waits (length asked + n)) (length asked + n)
         ≤ cond (counts_before i own (length asked + n) g) (lesser_share demands span g.stream) 0) (sym same)
         (subst (λ (w : ℕ). part (planned_at all (length asked + n)) w (length asked + n)
-        ≤ cond (counts_before i own (length asked + n) (planned_at all (length asked + n))) (lesser_share demands span (planned_at all (length asked + n)).stream) 0)
+        ≤ cond (counts_before i own (length asked + n) (planned_at all (length asked + n)))
+        (lesser_share demands span (planned_at all (length asked + n)).stream) 0)
         (sym none) (no_later (planned_at all (length asked + n)) (counts_before i own (length asked + n) (planned_at all (length asked + n)))))
       where
         queued_late : Stream → ℕ → Stream
@@ -133,7 +134,8 @@ module _ (timing : Timing) (ends : ℕ) (asked : List (Option FlowFrames)) (pace
 
   -- ---- frames of units that keep order
 
-  module _ (buffering : Buffering) (buffering_delays : IsBuffering timing ends asked buffering) (i : ℕ) (frames : FlowFrames) (at : get_or asked i None ≡ Some frames)
+  module _ (buffering : Buffering) (buffering_delays : IsBuffering timing ends asked buffering) (i : ℕ) (frames : FlowFrames)
+      (at : get_or asked i None ≡ Some frames)
       (ordered : keep_order frames ≡ true) (bounded : may_be_passed buffering frames.greatest_ident ≡ false) (wait : ℕ)
       (enough : need_of timing buffering.frames i frames wait ≤ wait) where
     pub placed : planned_at all i ≡ frames
@@ -162,7 +164,8 @@ module _ (timing : Timing) (ends : ℕ) (asked : List (Option FlowFrames)) (pace
     one_beside true m a x asks = let is = asks refl in rw (is) (omega arith)
     one_beside false m a x asks = omega arith
 
-    pub demand_fits : IsSpaced frames.stream → DemandFits (buffered_traffic (traffic_of all) (buffered_for buffering.waits)) (others_of timing) (longest_frame 8) i wait
+    pub demand_fits : IsSpaced frames.stream → DemandFits (buffered_traffic (traffic_of all) (buffered_for buffering.waits)) (others_of timing)
+        (longest_frame 8) i wait
     demand_fits spaced =
         let fewer : total (length all) (λ j. cond (not (eqb j i) && may_precede frames (planned_at all j)) (its_share j) 0)
         ≤ total (length all) (λ j. cond (counts_before i frames j (planned_at all j)) (its_share j) 0) =
@@ -181,7 +184,8 @@ module _ (timing : Timing) (ends : ℕ) (asked : List (Option FlowFrames)) (pace
         → OwnDemandFits (buffered_traffic (traffic_of all) (buffered_for buffering.waits)) (others_of timing) (longest_frame 8) i wait
     own_fits asks =
         let here : (j : ℕ) → eqb j i ≡ true → are_asked_for (planned_at all j) ≡ true = λ j same.
-        subst (λ (k : ℕ). are_asked_for (planned_at all k) ≡ true) (sym (eqb-true j i same)) (subst (λ (f : FlowFrames). are_asked_for f ≡ true) (sym placed) asks) in
+        subst (λ (k : ℕ). are_asked_for (planned_at all k) ≡ true) (sym (eqb-true j i same))
+        (subst (λ (f : FlowFrames). are_asked_for f ≡ true) (sym placed) asks) in
         let fewer : total (length all) (λ j. cond (eqb j i || (not (eqb j i) && may_precede frames (planned_at all j))) (its_share j) 0)
         ≤ total (length all) (λ j. cond (counts_before i frames j (planned_at all j)) (its_share j) 0) =
         total-le (length all) (λ j. cond (eqb j i || (not (eqb j i) && may_precede frames (planned_at all j))) (its_share j) 0)
@@ -191,7 +195,8 @@ module _ (timing : Timing) (ends : ℕ) (asked : List (Option FlowFrames)) (pace
         ap (λ (b : Bool). blocking timing frames.greatest_ident - (if b then frames.stream.bits else 0)) asks in
         let room = needed in
         subst (λ (own : FlowFrames). longest_frame 8 * (1 + others_before (others_of timing) own.greatest_ident)
-        + total (length all) (λ j. cond (eqb j i || (not (eqb j i) && may_precede own (planned_at all j))) (its_share j) 0) ≤ wait + own.stream.bits) (sym placed)
+        + total (length all) (λ j. cond (eqb j i || (not (eqb j i) && may_precede own (planned_at all j))) (its_share j) 0) ≤ wait + own.stream.bits)
+        (sym placed)
         (omega (arith, room, fewer, blocks))
 
     -- each stream that may go before has a wait
@@ -233,7 +238,8 @@ module _ (timing : Timing) (ends : ℕ) (asked : List (Option FlowFrames)) (pace
           let its : are_twins frames x ≡ true =
           subst (λ (f : FlowFrames). are_twins f x ≡ true) placed
           (subst (λ (f : FlowFrames). are_twins (planned_at all i) f ≡ true) (with_damage timing asked j x found_at) twins) in
-          elim (or_cases (keep_order x) (not (keep_order frames)) (and_parts (is_same frames.twin_ident x.twin_ident) (keep_order x || not (keep_order frames)) its).1) [
+          elim (or_cases (keep_order x) (not (keep_order frames))
+          (and_parts (is_same frames.twin_ident x.twin_ident) (keep_order x || not (keep_order frames)) its).1) [
             | inl keeps ↦ true≢false (sym keeps ∙ kept)
             | inr loses ↦ both_ways (not (keep_order frames)) (ap not ordered) loses
           ]
@@ -264,14 +270,16 @@ module _ (timing : Timing) (ends : ℕ) (asked : List (Option FlowFrames)) (pace
           let (w, stated) = known_wait (of.source p) x found_at less in
           let is_wait = wait_of_queue_group timing ends asked paced sent buffering.waits buffering_delays.bounded (of.source p) x found_at kept w stated in
           let held : buffered_for buffering.waits (of.source p) ≡ w = ap (λ (o : Option ℕ). unwrap_or o 0) stated in
-          let by_wait = begun timing ends asked paced sent s controllers planned of legal i known (of.source p) x found_at kept (inr before) w is_wait p in_p is refl
+          let by_wait = begun timing ends asked paced sent s controllers planned of legal i known (of.source p) x found_at kept
+          (inr before) w is_wait p in_p is refl
           (omega (arith, seen, held)) in
           omega (arith, by_wait, held)
 
       pub ordered_bound : IsSingle frames.stream → delay_of frames.stream wait ≤ frames.stream.period → IsStreamInTime s planned of i frames.stream wait
       ordered_bound single fits =
           subst (λ (own : FlowFrames). IsStreamInTime s planned of i own.stream wait) placed
-          (ordered_in_time s controllers legal (traffic_of all) (others_of timing) (longest_frame 8) planned of i wait known.known (positive timing ends asked paced sent) own_ordered
+          (ordered_in_time s controllers legal (traffic_of all) (others_of timing) (longest_frame 8) planned of i wait known.known
+          (positive timing ends asked paced sent) own_ordered
           (buffered_for buffering.waits) have (demand_fits single.1) (subst (λ (own : FlowFrames). IsSingle own.stream) (sym placed) single)
           (subst (λ (own : FlowFrames). delay_of own.stream wait ≤ own.stream.period) (sym placed) fits))
 
@@ -283,10 +291,12 @@ module _ (timing : Timing) (ends : ℕ) (asked : List (Option FlowFrames)) (pace
           (positive timing ends asked paced sent) own_ordered (buffered_for buffering.waits) have
           (subst (λ (own : FlowFrames). own.stream.bits ≤ longest_frame 8) (sym placed) small) (own_fits asks))
 
-      pub ordered_sent : IsSpaced frames.stream → frames.twin_ident ≡ None → AreQueuedBehind s planned of i → AreSteady s planned of i → AreSentWithin s planned of i frames.stream wait
+      pub ordered_sent : IsSpaced frames.stream → frames.twin_ident ≡ None → AreQueuedBehind s planned of i → AreSteady s planned of i
+          → AreSentWithin s planned of i frames.stream wait
       ordered_sent spaced single after steady =
           subst (λ (own : FlowFrames). AreSentWithin s planned of i own.stream wait) placed
-          (ordered_behind s controllers legal (traffic_of all) (others_of timing) (longest_frame 8) planned of i wait known.known (positive timing ends asked paced sent) own_ordered
+          (ordered_behind s controllers legal (traffic_of all) (others_of timing) (longest_frame 8) planned of i wait known.known
+          (positive timing ends asked paced sent) own_ordered
           (buffered_for buffering.waits) have (demand_fits spaced) alone after steady)
         where
           alone : (j : ℕ) → (traffic_of all).are_twins i j ≡ false

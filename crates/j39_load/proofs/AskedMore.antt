@@ -1,5 +1,6 @@
 -- A flow is reported as asked for too often exactly where more is asked in each time that is whole periods of its requests.
-use Rattle.std.proofs.Common.{◌≡◌, ℕ, ◌+◌, ◌-◌, ◌*◌, ◌/◌, ◌<◌, ◌≤◌, true, List, [], ◌∷◌, ◌++◌, Contains, Option, Some, None, is_some, inl, inr, ltb, refl, sym, ap, subst, ◌∙◌, arith}
+use Rattle.std.proofs.Common.{◌≡◌, ℕ, ◌+◌, ◌-◌, ◌*◌, ◌/◌, ◌<◌, ◌≤◌, true, List, [], ◌∷◌, ◌++◌, Contains, Option, Some, None, is_some, inl, inr, ltb, refl, sym}
+use Rattle.std.proofs.Common.{ap, subst, ◌∙◌, arith}
 use Rattle.std.specs.List.{slice_get}
 use Rattle.std.proofs.Math.Nat.{mul-div_cancel}
 use Rattle.std.proofs.lemmas.Bool.{and_parts, cases_lt, false≢true, le-ltb, lt-ltb, ltb-true}
@@ -15,7 +16,8 @@ use Rattle.j39_load.specs.Asked.{asked_of, total_load}
 use Rattle.j39_load.specs.AskedFlows.{asked_parts, asking_periods, is_asked_too_often, is_more_than_one, whole_parts}
 use Rattle.j39_load.specs.AskedMore.{AreAskedMore, asked_within, IsAskedMore, IsCommonTime}
 use Rattle.j39_load.specs.LineLists.{lines_of_each}
-use Rattle.j39_load.specs.LoadFindings.{all_findings, flows_asked_too_often, AreLoadFindings, further_findings, lateness, load_findings, overload, without_period}
+use Rattle.j39_load.specs.LoadFindings.{all_findings, flows_asked_too_often, AreLoadFindings, further_findings, lateness, load_findings, overload}
+use Rattle.j39_load.specs.LoadFindings.{without_period}
 use Rattle.j39_load.specs.declared.findings.load_finding.LoadFinding.{LoadFinding}
 use Rattle.j39_load.specs.declared.findings.load_finding.LoadFinding.TheVariants.{NoPeriod, Overload, LateFlow, NeedTooOld, AskedTooOften}
 use Rattle.j39_load.specs.declared.waits.delay.Delay.{Delay}
@@ -33,7 +35,8 @@ asked_in_time p time (every ∷ periods) some ((n, is), common) =
     let rest = ap (λ (m : ℕ). every * m) (asked_in_time p time periods some common) in
     let positive : 0 < every = elim (cases_lt 0 every) [
       | inl above ↦ above
-      | inr none ↦ absurd (let product = ap (λ (m : ℕ). n * m) (let zero_every : every ≡ 0 = omega (arith, none) in zero_every) in omega (arith, product, is, some))
+      | inr none ↦ absurd (let product = ap (λ (m : ℕ). n * m) (let zero_every : every ≡ 0 = omega (arith, none) in zero_every)
+          in omega (arith, product, is, some))
     ] in
     let quotient : time / every ≡ n = ap (λ (m : ℕ). m / every) is ∙ mul-div_cancel n positive in
     let first = ap (λ (m : ℕ). m * (p * whole_parts periods)) is in
@@ -115,15 +118,19 @@ module _ (requests : List RequestPlan) (flow : FlowPlan) where
 -- ---- what is reported
 
 module _ (plan : Plan) (timing : Timing) (load : ℕ) (delays : List (Option Delay)) where
-  only_asked : (f : ℕ) → Contains (all_findings plan timing load delays) (AskedTooOften f) → Contains (flows_asked_too_often plan.requests.items plan.flows.items) (AskedTooOften f)
+  only_asked : (f : ℕ) → Contains (all_findings plan timing load delays) (AskedTooOften f)
+      → Contains (flows_asked_too_often plan.requests.items plan.flows.items) (AskedTooOften f)
   only_asked f found = elim (Contains-append_cases (load_findings timing load delays) (further_findings plan timing delays) (AskedTooOften f) found) [
-    | inl now ↦ elim (Contains-append_cases (lines_of_each without_period 0 delays) (overload timing load ++ lines_of_each lateness 0 delays) (AskedTooOften f) now) [
-      | inl unpaced ↦ absurd (let its = reported_at without_period 0 delays (AskedTooOften f) unpaced in not_unpaced (0 + its.k) (of_unpaced (0 + its.k) its.value (AskedTooOften f) its.reported).1)
-      | inr more ↦ elim (Contains-append_cases (overload timing load) (lines_of_each lateness 0 delays) (AskedTooOften f) more) [
-        | inl too_much ↦ absurd (not_overload (of_overload timing load (AskedTooOften f) too_much).1)
-        | inr late ↦ absurd (let its = reported_at lateness 0 delays (AskedTooOften f) late in not_late (0 + its.k) (of_late (0 + its.k) its.value (AskedTooOften f) its.reported))
-      ]
-    ]
+    | inl now ↦ elim (Contains-append_cases (lines_of_each without_period 0 delays) (overload timing load ++ lines_of_each lateness 0 delays)
+        (AskedTooOften f) now) [
+          | inl unpaced ↦ absurd (let its = reported_at without_period 0 delays (AskedTooOften f) unpaced
+              in not_unpaced (0 + its.k) (of_unpaced (0 + its.k) its.value (AskedTooOften f) its.reported).1)
+          | inr more ↦ elim (Contains-append_cases (overload timing load) (lines_of_each lateness 0 delays) (AskedTooOften f) more) [
+            | inl too_much ↦ absurd (not_overload (of_overload timing load (AskedTooOften f) too_much).1)
+            | inr late ↦ absurd (let its = reported_at lateness 0 delays (AskedTooOften f) late
+                in not_late (0 + its.k) (of_late (0 + its.k) its.value (AskedTooOften f) its.reported))
+          ]
+        ]
     | inr further ↦ elim (Contains-append_cases (old_needs timing plan.requests.items plan.flows.items delays plan.needs.items)
         (flows_asked_too_often plan.requests.items plan.flows.items) (AskedTooOften f) further) [
           | inl old ↦ absurd (let its = of_old timing plan delays (AskedTooOften f) old in not_old its.0 its.1)
@@ -144,7 +151,8 @@ module _ (plan : Plan) (timing : Timing) (load : ℕ) (delays : List (Option Del
       not_old k same = cc
 
 pub asked_at : (plan : Plan) (timing : Timing) (findings : List LoadFinding) → AreLoadFindings plan (Some timing) findings → (f : ℕ)
-    → Contains findings (AskedTooOften f) → (flow : FlowPlan) × (slice_get plan.flows.items f ≡ Some flow) × (is_asked_too_often plan.requests.items flow ≡ true)
+    → Contains findings (AskedTooOften f) → (flow : FlowPlan) × (slice_get plan.flows.items f ≡ Some flow)
+    × (is_asked_too_often plan.requests.items flow ≡ true)
 asked_at plan timing findings (stays, delays, asks, is) f found =
     let load : ℕ = total_load timing (asked_of timing plan stays) in
     let its = of_asked plan.requests.items plan.flows.items (AskedTooOften f)
@@ -167,7 +175,8 @@ asked_exactly plan timing findings are f flow at = (
     reported : AreLoadFindings plan (Some timing) findings → is_asked_too_often plan.requests.items flow ≡ true → Contains findings (AskedTooOften f)
     reported (stays, delays, asks, is) too_often =
         subst (λ l. Contains l (AskedTooOften f)) (sym is)
-        (Contains-append_right (load_findings timing (total_load timing (asked_of timing plan stays)) delays) (further_findings plan timing delays) (AskedTooOften f)
+        (Contains-append_right (load_findings timing (total_load timing (asked_of timing plan stays)) delays) (further_findings plan timing delays)
+        (AskedTooOften f)
         (Contains-append_right (old_needs timing plan.requests.items plan.flows.items delays plan.needs.items)
         (flows_asked_too_often plan.requests.items plan.flows.items) (AskedTooOften f)
         (asked_reported plan.requests.items plan.flows.items f flow at too_often)))

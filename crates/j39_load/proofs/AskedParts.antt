@@ -1,5 +1,6 @@
 -- Sums of fractions, by their numerators and denominators: of one list behind another one, and in a time that is whole periods of each.
-use Rattle.std.proofs.Common.{◌≡◌, ℕ, suc, ◌+◌, ◌*◌, ◌<◌, ◌≤◌, Bool, true, false, if◌then◌else◌, List, [], ◌∷◌, ◌++◌, Option, Some, None, ◌&&◌, ◌==◌, not, get_or, length, ltb, take, drop, refl, sym, ap, subst, ◌∙◌, arith}
+use Rattle.std.proofs.Common.{◌≡◌, ℕ, suc, ◌+◌, ◌*◌, ◌<◌, ◌≤◌, Bool, true, false, if◌then◌else◌, List, [], ◌∷◌, ◌++◌, Option, Some, None, ◌&&◌, ◌==◌, not}
+use Rattle.std.proofs.Common.{get_or, length, ltb, take, drop, refl, sym, ap, subst, ◌∙◌, arith}
 use Rattle.std.specs.List.{cons_option}
 use Rattle.std.specs.Option.{ForSome, option_to_list}
 use Rattle.std.proofs.Math.Seq.{take-suc}
@@ -51,7 +52,8 @@ still_more p xs ys some more =
 -- ---- of the requests that ask for a flow
 
 module _ (flow : FlowPlan) where
-  pub periods_of_both : (requests others : List RequestPlan) → asking_periods (requests ++ others) flow ≡ asking_periods requests flow ++ asking_periods others flow
+  pub periods_of_both : (requests others : List RequestPlan) → asking_periods (requests ++ others) flow ≡ asking_periods requests flow
+      ++ asking_periods others flow
   periods_of_both requests others = filter_map-append (asked_every flow) requests others
 
   whole_by_period : (o : Option ℕ) (periods : List ℕ) → ForSome o (λ n. 1 ≤ n) → 1 ≤ whole_parts periods → 1 ≤ whole_parts (cons_option o periods)

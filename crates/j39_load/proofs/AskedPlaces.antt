@@ -36,7 +36,8 @@ module _ (flows : List (Option FlowLoad)) (units : List (Option UnitLoad)) (requ
       ap (λ (k : ℕ). get_or (all_frames flows units requests) k None) (sym place)
       ∙ (get_or-append-add (map frames_of_flow flows)
       (map singles_of_flow flows ++ (map packets_of_unit units ++ (map announcements_of_unit units ++ map frames_of_request requests))) f None
-      ∙ (get_or_append_left (map singles_of_flow flows) (map packets_of_unit units ++ (map announcements_of_unit units ++ map frames_of_request requests)) None f
+      ∙ (get_or_append_left (map singles_of_flow flows) (map packets_of_unit units
+      ++ (map announcements_of_unit units ++ map frames_of_request requests)) None f
       (omega (arith, below, length-map flows singles_of_flow))
       ∙ (there ∙ own)))
 
@@ -50,7 +51,13 @@ module _ (flows : List (Option FlowLoad)) (units : List (Option UnitLoad)) (requ
       let place : length (map frames_of_flow flows) + (length (map singles_of_flow flows)
       + (length (map packets_of_unit units) + (length (map announcements_of_unit units) + r)))
       ≡ 2 * length flows + (2 * length units + r) =
-      omega (arith, length-map flows frames_of_flow, length-map flows singles_of_flow, length-map units packets_of_unit, length-map units announcements_of_unit) in
+      omega (
+        arith,
+        length-map flows frames_of_flow,
+        length-map flows singles_of_flow,
+        length-map units packets_of_unit,
+        length-map units announcements_of_unit,
+      ) in
       ap (λ (k : ℕ). get_or (all_frames flows units requests) k None) (sym place)
       ∙ (get_or-append-add (map frames_of_flow flows)
       (map singles_of_flow flows ++ (map packets_of_unit units ++ (map announcements_of_unit units ++ map frames_of_request requests)))

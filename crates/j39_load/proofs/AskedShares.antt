@@ -1,5 +1,6 @@
 -- Numbers by their digits: so many times one and so many times another one, and which of two is less.
-use Rattle.std.proofs.Common.{◌≡◌, ℕ, zero, suc, ◌+◌, ◌-◌, ◌*◌, ◌/◌, ◌%◌, ◌^◌, ◌<◌, ◌≤◌, List, Bool, false, get_or-set_other, get_or-set_same, inl, inr, length, ltb, set, refl, sym, ap, subst, ◌∙◌, arith}
+use Rattle.std.proofs.Common.{◌≡◌, ℕ, zero, suc, ◌+◌, ◌-◌, ◌*◌, ◌/◌, ◌%◌, ◌^◌, ◌<◌, ◌≤◌, List, Bool, false, get_or-set_other, get_or-set_same, inl, inr, length}
+use Rattle.std.proofs.Common.{ltb, set, refl, sym, ap, subst, ◌∙◌, arith}
 use Rattle.std.proofs.Math.Nat.{pow-suc}
 use Rattle.std.proofs.lemmas.Bool.{cases_lt, cases_order, le-ltb, lt-ltb}
 use Rattle.j39_load.specs.inside.AskedShares.{digit_at, digit_base, first_digits, less_with}
@@ -65,7 +66,8 @@ combined_more now old other times other_times place over sum inside are is small
     let front : first_digits next place ≡ first_digits now place =
     same_digits next now place (λ k less. get_or-set_other now place k (sum % digit_base) 0 (λ same. absurd (omega (arith, less, same)))) in
     let split : sum % digit_base + digit_base * (sum / digit_base) ≡ sum = omega arith in
-    let scaled : power * (digit_at next place + digit_base * (sum / digit_base)) ≡ power * (times * digit_at old place + other_times * digit_at other place + over) =
+    let scaled : power * (digit_at next place + digit_base * (sum / digit_base))
+    ≡ power * (times * digit_at old place + other_times * digit_at other place + over) =
     ap (λ (n : ℕ). power * n) (ap (λ (d : ℕ). d + digit_base * (sum / digit_base)) written ∙ split ∙ is
     ∙ ap (λ (d : ℕ). times * d + other_times * digit_at other place + over) (are.rest place (omega arith))) in
     let of_old = ap (λ (n : ℕ). times * n) (one_digit_more old place) in
@@ -107,8 +109,18 @@ module _ (p s t a b : ℕ) (small : s < p) (other_small : t < p) where
     | inl same ↦
         let product = ap (λ (n : ℕ). p * n) same in
         elim (cases_lt s t) [
-          | inl below ↦ rw (lt-ltb s t below, lt-ltb (s + p * a) (t + p * b) (omega (arith, below, product)), le-ltb a b (omega (arith, same)), le-ltb b a (omega (arith, same))) refl
-          | inr above ↦ rw (le-ltb s t above, le-ltb (s + p * a) (t + p * b) (omega (arith, above, product)), le-ltb a b (omega (arith, same)), le-ltb b a (omega (arith, same))) refl
+          | inl below ↦ rw (
+            lt-ltb s t below,
+            lt-ltb (s + p * a) (t + p * b) (omega (arith, below, product)),
+            le-ltb a b (omega (arith, same)),
+            le-ltb b a (omega (arith, same)),
+          ) refl
+          | inr above ↦ rw (
+            le-ltb s t above,
+            le-ltb (s + p * a) (t + p * b) (omega (arith, above, product)),
+            le-ltb a b (omega (arith, same)),
+            le-ltb b a (omega (arith, same)),
+          ) refl
         ]
     | inr (inl less) ↦
         let greater = times_greater p a b less in

@@ -1,5 +1,6 @@
 -- The delays of a plan's flows bound the waits of their frames, since a wait that has room for the streams before has room for the traffic.
-use Rattle.std.proofs.Common.{◌≡◌, ℕ, ◌<◌, ◌≤◌, Bool, true, false, leb, if◌then◌else◌, List, [], ◌++◌, length, get_or, unwrap_or, All, IfSome, Option, Some, None}
+use Rattle.std.proofs.Common.{◌≡◌, ℕ, ◌<◌, ◌≤◌, Bool, true, false, leb, if◌then◌else◌, List, [], ◌++◌, length, get_or, unwrap_or, All, IfSome, Option, Some}
+use Rattle.std.proofs.Common.{None}
 use Rattle.std.proofs.Common.{refl, sym, ap, ◌∙◌, subst, inl, inr, arith}
 use Rattle.std.proofs.lemmas.Bool.{cases_lt, leb-false, leb-true, true≢false}
 use Rattle.std.proofs.lemmas.Option.{same_Some, none-some, slice_get_within, slice_get-get_or, get_or_from_slice_get}
@@ -53,7 +54,8 @@ legal_in_order s legal = record {
   in_order = λ p q in_p in_q seen waits. (p, (in_p, refl, (omega (arith, waits.0), waits.1), λ is. refl), legal.in_order p q in_p in_q seen waits);
 }
 
-pub known_in_order : (timing : Timing) (ends : ℕ) (all : List (Option FlowFrames)) → AreAllOrdered all → (s : Schedule) (planned : ℕ → Bool) (of : Origins) (i : ℕ)
+pub known_in_order : (timing : Timing) (ends : ℕ) (all : List (Option FlowFrames)) → AreAllOrdered all → (s : Schedule) (planned : ℕ → Bool) (of : Origins)
+    (i : ℕ)
     → AreFramesOfPlan timing all s planned of i → AreFramesInAnyOrder timing ends all s all_in_order planned of i
 known_in_order timing ends all ordered s planned of i known = record {
   known = known;
@@ -119,7 +121,8 @@ judged_beyond frames limit time bits stated = go (leb time limit) refl stated
     go false fits stated = later (leb time frames.stream.period) refl (leb-false time limit fits) stated
 
 module _ (timing : Timing) (ends : ℕ) (asked : List (Option FlowFrames)) (paced : All HasPeriod (asked ++ damage_frames timing))
-    (sent : All (λ (f : Option FlowFrames). IfSome f IsSent) asked) (buffering : Buffering) (is : IsBuffering timing ends asked buffering) (flow : ℕ) (frames : FlowFrames)
+    (sent : All (λ (f : Option FlowFrames). IfSome f IsSent) asked) (buffering : Buffering) (is : IsBuffering timing ends asked buffering) (flow : ℕ)
+    (frames : FlowFrames)
     (at : get_or asked flow None ≡ Some frames) (limit bits : ℕ) where
   its_sent : IsSent frames
   its_sent = subst (λ (o : Option FlowFrames). IfSome o IsSent) at (sent flow None (get_or_inside asked flow frames at))
@@ -153,7 +156,8 @@ module _ (timing : Timing) (ends : ℕ) (asked : List (Option FlowFrames)) (pace
         sum,
         omega (arith, within, sum),
         λ s controllers planned of legal known.
-            by_askers ordered passed wait inside.demand_fits s controllers planned of legal known single (omega (arith, within, limited)) (askers_want frames.stream) refl,
+            by_askers ordered passed wait inside.demand_fits s controllers planned of legal known single (omega (arith, within, limited))
+            (askers_want frames.stream) refl,
       )
 
   ordered_frames : keep_order frames ≡ true → (passed : Bool) → may_be_passed buffering frames.greatest_ident ≡ passed
@@ -200,7 +204,8 @@ module _ (timing : Timing) (ends : ℕ) (asked : List (Option FlowFrames)) (pace
     where
       go : (keeps : Bool) → keep_order frames ≡ keeps
           → MatchBool keeps
-          (MatchBool (may_be_passed buffering frames.greatest_ident) (Within bits ≡ Late) (IsShortDelay timing buffering.frames flow frames limit (Within bits)))
+          (MatchBool (may_be_passed buffering frames.greatest_ident) (Within bits ≡ Late)
+          (IsShortDelay timing buffering.frames flow frames limit (Within bits)))
           (Within bits ≡ any_delay frames limit (get_or buffering.waits flow None)) → Bound
       go true keeps stated = ordered_frames keeps (may_be_passed buffering frames.greatest_ident) refl stated single limited
       go false keeps stated = unordered_frames keeps (get_or buffering.waits flow None) refl stated
@@ -210,7 +215,8 @@ module _ (timing : Timing) (ends : ℕ) (asked : List (Option FlowFrames)) (pace
     where
       go : (keeps : Bool) → keep_order frames ≡ keeps
           → MatchBool keeps
-          (MatchBool (may_be_passed buffering frames.greatest_ident) (Beyond bits ≡ Late) (IsShortDelay timing buffering.frames flow frames limit (Beyond bits)))
+          (MatchBool (may_be_passed buffering frames.greatest_ident) (Beyond bits ≡ Late)
+          (IsShortDelay timing buffering.frames flow frames limit (Beyond bits)))
           (Beyond bits ≡ any_delay frames limit (get_or buffering.waits flow None)) → BoundBeyond
       go true keeps stated = ordered_beyond keeps (may_be_passed buffering frames.greatest_ident) refl stated single
       go false keeps stated = unordered_beyond keeps (get_or buffering.waits flow None) refl stated
@@ -235,8 +241,10 @@ long_late count is = cc
 
 -- the delay of frames of single messages is a bound, or none is reported
 never_stated : (timing : Timing) (buffering : Buffering) (flow : ℕ) (frames : FlowFrames) (limit : ℕ) (delay : Delay) → ((bits : ℕ) → delay ≡ Within bits → ⊥)
-    → ((bits : ℕ) → delay ≡ Beyond bits → ⊥) → (delay ≡ Late → ⊥) → (IsShortDelay timing buffering.frames flow frames limit delay → ⊥) → IsFrameDelay timing buffering flow frames limit delay → ⊥
-never_stated timing buffering flow frames limit delay bound beyond none short stated = go (keep_order frames) (may_be_passed buffering frames.greatest_ident) stated
+    → ((bits : ℕ) → delay ≡ Beyond bits → ⊥) → (delay ≡ Late → ⊥) → (IsShortDelay timing buffering.frames flow frames limit delay → ⊥)
+    → IsFrameDelay timing buffering flow frames limit delay → ⊥
+never_stated timing buffering flow frames limit delay bound beyond none short stated = go (keep_order frames)
+    (may_be_passed buffering frames.greatest_ident) stated
   where
     late : (wait : Option ℕ) → delay ≡ any_delay frames limit wait → ⊥
     late None is = none is
@@ -265,9 +273,11 @@ never_long timing buffering flow frames limit count =
 
 -- frames of a unit's broadcasts, for which a wait is reported
 module _ (timing : Timing) (ends : ℕ) (asked : List (Option FlowFrames)) (paced : All HasPeriod (asked ++ damage_frames timing))
-    (sent : All (λ (f : Option FlowFrames). IfSome f IsSent) asked) (buffering : Buffering) (is : IsBuffering timing ends asked buffering) (place : ℕ) (frames : FlowFrames)
+    (sent : All (λ (f : Option FlowFrames). IfSome f IsSent) asked) (buffering : Buffering) (is : IsBuffering timing ends asked buffering) (place : ℕ)
+    (frames : FlowFrames)
     (at : get_or asked place None ≡ Some frames) (wait : ℕ) (s : Schedule) (controllers : Controllers) (planned : ℕ → Bool) (of : Origins)
-    (legal : IsLegalInAnyOrder s controllers) (turn : ComeInAnyOrder timing ends asked s controllers planned of place) (single : (frames.twin_ident ≡ None) × IsSpaced frames.stream) where
+    (legal : IsLegalInAnyOrder s controllers) (turn : ComeInAnyOrder timing ends asked s controllers planned of place)
+    (single : (frames.twin_ident ≡ None) × IsSpaced frames.stream) where
   here : planned_at asked place ≡ frames
   here = ap (λ (o : Option FlowFrames). unwrap_or o no_frames) at
 
@@ -306,20 +316,23 @@ module _ (plan : Plan) (timing : Timing) (stays : UnitPlan → Bool) (delays : L
   -- what is reported of a flow by its messages
   pub stated_of : (flow : ℕ) (load : FlowLoad) (messages : Messages) (delay : Delay) → slice_get asked.flows flow ≡ Some (Some load)
       → load.messages ≡ messages → slice_get delays flow ≡ Some (Some delay)
-      → (buffering : Buffering) × IsBuffering timing asked.unplanned_end (frames_asked asked) buffering × IsDelayOf timing asked buffering flow messages load.limit delay
+      → (buffering : Buffering) × IsBuffering timing asked.unplanned_end (frames_asked asked) buffering
+      × IsDelayOf timing asked buffering flow messages load.limit delay
   stated_of flow load messages delay its is at =
       let (buffering, buffering_delays, has) = delay_at flow (Some delay) at in
       let same : has.0 ≡ load = same_Some _ _ (same_Some _ _ (sym has.1 ∙ its)) in
       let by_load : IsDelay timing asked buffering flow load delay = subst (λ (l : FlowLoad). IsDelay timing asked buffering flow l delay) same has.2 in
       (buffering, buffering_delays, subst (λ (m : Messages). IsDelayOf timing asked buffering flow m load.limit delay) is by_load)
 
-  of_short : (buffering : Buffering) → IsBuffering timing asked.unplanned_end (frames_asked asked) buffering → (flow : ℕ) (load : FlowLoad) (frames : FlowFrames) (bits : ℕ)
+  of_short : (buffering : Buffering) → IsBuffering timing asked.unplanned_end (frames_asked asked) buffering
+      → (flow : ℕ) (load : FlowLoad) (frames : FlowFrames) (bits : ℕ)
       → slice_get asked.flows flow ≡ Some (Some load)
       → load.messages ≡ Short frames → IsFrameDelay timing buffering flow frames load.limit (Within bits) → IsBounded timing asked flow bits
   of_short buffering buffering_delays flow load frames bits its short delayed =
       let known : ArePaced load.limit (Short frames) = subst (ArePaced load.limit) short (of_loads timing plan stays flow load its).messages in
       let at = own_read asked.flows asked.units asked.requests flow load frames its short in
-      let bound = frames_bounded timing asked.unplanned_end (frames_asked asked) (all_paced timing plan stays) (all_sent timing plan stays) buffering buffering_delays flow frames at
+      let bound = frames_bounded timing asked.unplanned_end (frames_asked asked) (all_paced timing plan stays)
+      (all_sent timing plan stays) buffering buffering_delays flow frames at
       load.limit bits delayed known.1 known.2 in
       record {
         load = load;
@@ -336,20 +349,23 @@ module _ (plan : Plan) (timing : Timing) (stays : UnitPlan → Bool) (delays : L
         bounds = λ ordered. in_order timing asked.unplanned_end (frames_asked asked) ordered flow frames bound.0 bound.3;
       }
 
-  of_messages : (buffering : Buffering) → IsBuffering timing asked.unplanned_end (frames_asked asked) buffering → (flow : ℕ) (load : FlowLoad) (messages : Messages) (bits : ℕ)
+  of_messages : (buffering : Buffering) → IsBuffering timing asked.unplanned_end (frames_asked asked) buffering
+      → (flow : ℕ) (load : FlowLoad) (messages : Messages) (bits : ℕ)
       → slice_get asked.flows flow ≡ Some (Some load)
       → load.messages ≡ messages → IsDelayOf timing asked buffering flow messages load.limit (Within bits) → IsBounded timing asked flow bits
   of_messages buffering buffering_delays flow load (Short frames) bits its is stated = of_short buffering buffering_delays flow load frames bits its is stated
   of_messages buffering buffering_delays flow load (ToOne frames) bits its is stated = absurd stated
   of_messages buffering buffering_delays flow load (ToAll broadcast) bits its is stated = absurd stated
 
-  beyond_short : (buffering : Buffering) → IsBuffering timing asked.unplanned_end (frames_asked asked) buffering → (flow : ℕ) (load : FlowLoad) (messages : Messages) (bits : ℕ)
+  beyond_short : (buffering : Buffering) → IsBuffering timing asked.unplanned_end (frames_asked asked) buffering
+      → (flow : ℕ) (load : FlowLoad) (messages : Messages) (bits : ℕ)
       → slice_get asked.flows flow ≡ Some (Some load)
       → load.messages ≡ messages → IsDelayOf timing asked buffering flow messages load.limit (Beyond bits) → IsBoundedBeyond timing asked flow bits
   beyond_short buffering buffering_delays flow load (Short frames) bits its short delayed =
       let known : ArePaced load.limit (Short frames) = subst (ArePaced load.limit) short (of_loads timing plan stays flow load its).messages in
       let at = own_read asked.flows asked.units asked.requests flow load frames its short in
-      let bound = frames_beyond timing asked.unplanned_end (frames_asked asked) (all_paced timing plan stays) (all_sent timing plan stays) buffering buffering_delays flow frames at
+      let bound = frames_beyond timing asked.unplanned_end (frames_asked asked) (all_paced timing plan stays)
+      (all_sent timing plan stays) buffering buffering_delays flow frames at
       load.limit bits delayed known.1 in
       record {
         load = load;
@@ -402,5 +418,6 @@ short_bounded plan timing stays delays asks none flow load frames its short =
         let some : 1 ≡ 0 = ap length stated in omega arith)
     go paced on_time (Some (Long count)) at = absurd (let stated = stated_of plan timing stays delays asks flow load (Short frames) (Long count) its short at in
         never_long timing stated.0 flow frames load.limit count stated.2)
-    go paced on_time (Some (Whole whole)) at = absurd (let stated = stated_of plan timing stays delays asks flow load (Short frames) (Whole whole) its short at in
+    go paced on_time (Some (Whole whole)) at = absurd (let stated = stated_of plan timing stays delays asks flow load (Short frames)
+        (Whole whole) its short at in
         never_whole timing stated.0 flow frames load.limit whole stated.2)

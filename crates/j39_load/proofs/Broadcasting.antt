@@ -11,7 +11,8 @@ use Rattle.j39_load.specs.SoundLoads.{IsSoundBroadcast}
 
 -- one of which nothing is reported
 abbrev pub no_broadcast : Broadcast
-no_broadcast = record { sender = 0; packets = 0; least_packets = 0; has_short = false; period = 0; apart = 0; jitter = 0; late = 0; askers = 0; deadline = None }
+no_broadcast = record
+    { sender = 0; packets = 0; least_packets = 0; has_short = false; period = 0; apart = 0; jitter = 0; late = 0; askers = 0; deadline = None }
 
 -- ---- the least count of some broadcasts
 

@@ -30,7 +30,8 @@ buffered_read waits all j below =
 
 -- ---- how long frames are buffered
 
-buffered_with : {E : Type 0} (timing : Timing) (ends : ℕ) (all : List (Option FlowFrames)) (frames : FlowFrames) (leasts : List (Option ℕ)) (wait : Result (Option ℕ) E)
+buffered_with : {E : Type 0} (timing : Timing) (ends : ℕ) (all : List (Option FlowFrames)) (frames : FlowFrames) (leasts : List (Option ℕ))
+    (wait : Result (Option ℕ) E)
     → leasts ≡ leasts_of all → keep_order frames ≡ false → IfOk wait (IsQueueGroupWait timing ends leasts all frames)
     → IfOk wait (IsBufferedFor timing ends all (Some frames))
 buffered_with timing ends all frames leasts (Ok wait) same unordered is =
@@ -39,8 +40,10 @@ buffered_with timing ends all frames leasts (Ok wait) same unordered is =
 buffered_with timing ends all frames leasts (Err e) same unordered is = tt
 
 -- those of a unit that keeps no order are for as long as they wait in it
-pub held_by_queue_group : {E : Type 0} (timing : Timing) (ends : ℕ) (all : List (Option FlowFrames)) (here : Option FlowFrames) (frames : FlowFrames) (leasts : List (Option ℕ))
+pub held_by_queue_group : {E : Type 0} (timing : Timing) (ends : ℕ) (all : List (Option FlowFrames)) (here : Option FlowFrames) (frames : FlowFrames)
+    (leasts : List (Option ℕ))
     (wait : Result (Option ℕ) E) → here ≡ Some frames → leasts ≡ leasts_of all → keep_order frames ≡ false
     → IfOk wait (IsQueueGroupWait timing ends leasts all frames) → IfOk wait (IsBufferedFor timing ends all here)
 held_by_queue_group timing ends all here frames leasts wait its same unordered is =
-    subst (λ (f : Option FlowFrames). IfOk wait (IsBufferedFor timing ends all f)) (sym its) (buffered_with timing ends all frames leasts wait same unordered is)
+    subst (λ (f : Option FlowFrames). IfOk wait (IsBufferedFor timing ends all f)) (sym its)
+    (buffered_with timing ends all frames leasts wait same unordered is)

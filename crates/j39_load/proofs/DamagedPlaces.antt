@@ -112,7 +112,8 @@ module _ (plan : Plan) (s : Schedule) (d : Damaged) (planned : ℕ → Bool) (se
     ]
 
   -- a planned frame of some streams, none of which is of damage, shares no identifier with damage: it does so with a frame of these streams, or with none
-  module _ (has : ℕ → Bool) (never : (p : ℕ) → IsDamage p → has (of.source p) ≡ true → ⊥) (above_zero : (p : ℕ) → p < s.count → planned p ≡ true → 0 < s.ident p)
+  module _ (has : ℕ → Bool) (never : (p : ℕ) → IsDamage p → has (of.source p) ≡ true → ⊥)
+      (above_zero : (p : ℕ) → p < s.count → planned p ≡ true → 0 < s.ident p)
       (own : (p q t : ℕ) → p < s.count → q < s.count → t < s.now → planned p ≡ true → has (source_place plan (sent.source p)) ≡ true → IsQueuedAt s p t
       → IsQueuedAt s q t → s.ident p ≡ s.ident q → (planned q ≡ true) × (has (source_place plan (sent.source q)) ≡ true)) where
     own_of_frames : (p q t : ℕ) → IsFrame p → IsFrame q → t < w.now → is_planned p ≡ true → has (of.source p) ≡ true → IsQueuedAt w p t → IsQueuedAt w q t

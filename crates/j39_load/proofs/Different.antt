@@ -183,7 +183,8 @@ module _ (plan : Plan) (clean : Clean plan) (named : ℕ → Bool) (held : ℕ �
         to_there : (at : ℕ → ℕ) (b : Bool) → is_pdu2 group.pgn ≡ b
             → identifier_of second.priority second.pgn (destination_at at flow.to) (at flow.sender)
             ≡ identifier_of second.priority second.pgn (destination_at at other.to) (at flow.sender)
-        to_there at true pdu2 = to_either second.priority (destination_at at flow.to) (destination_at at other.to) (at flow.sender) (ap is_pdu2 (sym stated.1) ∙ pdu2)
+        to_there at true pdu2 = to_either second.priority (destination_at at flow.to) (destination_at at other.to) (at flow.sender)
+            (ap is_pdu2 (sym stated.1) ∙ pdu2)
         to_there at false pdu1 = ap (λ (to : To). identifier_of second.priority second.pgn (destination_at at to) (at flow.sender)) (one_place pdu1)
 
         one_identifier : (at : ℕ → ℕ) → group_ident at group flow ≡ group_ident at second other
@@ -198,8 +199,10 @@ module _ (plan : Plan) (clean : Clean plan) (named : ℕ → Bool) (held : ℕ �
       where
         one_group : (v w : Option Selector) → group.when ≡ v → second.when ≡ w → ¬ DifferInValue v w → ¬ DifferInValue w v → flow.group ≡ other.group
         one_group v w first_when second_when alike likewise =
-            groups (subst (λ (o : Option Selector). ¬ DifferInValue o second.when) (sym first_when) (subst (λ (o : Option Selector). ¬ DifferInValue v o) (sym second_when) alike))
-            (subst (λ (o : Option Selector). ¬ DifferInValue o group.when) (sym second_when) (subst (λ (o : Option Selector). ¬ DifferInValue w o) (sym first_when) likewise))
+            groups (subst (λ (o : Option Selector). ¬ DifferInValue o second.when) (sym first_when)
+            (subst (λ (o : Option Selector). ¬ DifferInValue v o) (sym second_when) alike))
+            (subst (λ (o : Option Selector). ¬ DifferInValue o group.when) (sym second_when)
+            (subst (λ (o : Option Selector). ¬ DifferInValue w o) (sym first_when) likewise))
 
         go : (v w : Option Selector) → group.when ≡ v → second.when ≡ w → (flow.group ≡ other.group) ⊎ AreTwinFlows group flow second other
         go (Some v) (Some w) first_when second_when = inr (same_twins v w first_when second_when)

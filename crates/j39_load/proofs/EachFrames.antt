@@ -71,7 +71,8 @@ module _ (timing : Timing) (plan : Plan) (stays : UnitPlan → Bool) (P : FlowFr
       (session : (flow : FlowPlan) (v : ℕ) (pace : Pace) (packets askers : ℕ)
       → P (frames_for timing pace askers (packet_frames timing plan.units.items stays flow v pace packets)))
       (broadcast : (pgn u gaps place : ℕ) → P (broadcast_frames timing plan.units.items stays pgn u gaps place))
-      (wants : (flow : FlowPlan) (pace : Pace) (group : GroupPlan) (askers : ℕ) → P (wanting (broadcast_for timing pace askers (broadcast_of timing flow pace group))))
+      (wants : (flow : FlowPlan) (pace : Pace) (group : GroupPlan) (askers : ℕ)
+      → P (wanting (broadcast_for timing pace askers (broadcast_of timing flow pace group))))
       (asking : (request : RequestPlan) (period : ℕ) → P (request_load timing plan.units.items stays request period).frames) where
     -- ---- of flows
 
@@ -96,7 +97,8 @@ module _ (timing : Timing) (plan : Plan) (stays : UnitPlan → Bool) (P : FlowFr
         → OfFlow (load_of_flow timing plan stays flow)
     of_flow flow None group paced at = rw (paced) (tt, tt)
     of_flow flow (Some pace) None paced at = rw (paced, at) (tt, tt)
-    of_flow flow (Some pace) (Some group) paced at = rw (paced, at) (by_lengths flow pace group (askers_of plan.requests.items flow) (is_always_short group) (has_short group))
+    of_flow flow (Some pace) (Some group) paced at = rw (paced, at)
+        (by_lengths flow pace group (askers_of plan.requests.items flow) (is_always_short group) (has_short group))
 
     of_flows : All OfFlow (loads_of timing plan stays)
     of_flows = All-map OfFlow (load_of_flow timing plan stays) plan.flows.items

@@ -31,7 +31,8 @@ use Rattle.j39_load.specs.SentFrames.{Announcing, Carrying, Single, First, InSes
 use Rattle.j39_load.proofs.KeepingApart.{few_bits}
 use Rattle.j39_load.proofs.KeepingOneToAll as one
 use Rattle.j39_load.proofs.KeepingOneToAll.{OneToAll}
-use Rattle.j39_load.proofs.KeepingPlanned.{IsAskedSeldom, keeps_queues, seldom_at, slots_kept, planned_address, planned_apart, planned_controllers, planned_held, planned_single}
+use Rattle.j39_load.proofs.KeepingPlanned.{IsAskedSeldom, keeps_queues, seldom_at, slots_kept, planned_address, planned_apart, planned_controllers}
+use Rattle.j39_load.proofs.KeepingPlanned.{planned_held, planned_single}
 use Rattle.j39_load.proofs.KnownFrames.{one_to}
 use Rattle.j39_load.proofs.Milliseconds.{at_once, in_unit_ms, own_ms}
 use Rattle.j39_load.proofs.Slots.{ends_before, slots}
@@ -240,7 +241,8 @@ module _ (plan : Plan) (timing : Timing) (apart : ArePlannedApart (units_of plan
 
   single : (p : ℕ) → bus.ident p ≡ ident_of Alone → IsSingleFrame plan timing bus held f (p * width) p
   single p is =
-      planned_single plan timing apart f flow pace group its paced of short bus (p * width) p (omega arith) (omega arith) (at_once timing pace.jitter (p * width)) is
+      planned_single plan timing apart f flow pace group its paced of short bus (p * width) p (omega arith) (omega arith)
+      (at_once timing pace.jitter (p * width)) is
 
   request : (p : ℕ) → bus.ident p ≡ ident_of Asks → IsRequestFrame plan bus held r (p * width) p
   request p is = record {
@@ -259,7 +261,8 @@ module _ (plan : Plan) (timing : Timing) (apart : ArePlannedApart (units_of plan
   in_time p below =
       let slots : p * width ≤ n * width = mul-le-mul_right width (omega (arith, below)) in
       let most : p * width * bit_time timing.bitrate ≤ n * width * bit_time timing.bitrate = mul-le-mul_right (bit_time timing.bitrate) slots in
-      in_unit_ms timing (its_pace.period + its_pace.jitter) 0 (p * width) (own_ms timing (its_pace.period + its_pace.jitter) 0 (p * width) (omega (arith, most, fits)))
+      in_unit_ms timing (its_pace.period + its_pace.jitter) 0 (p * width)
+      (own_ms timing (its_pace.period + its_pace.jitter) 0 (p * width) (omega (arith, most, fits)))
 
   sends_to_all : w < length plan.units.items
   sends_to_all = all_at (λ (y : FlowPlan). y.sender < length plan.units.items) plan.flows.items plan.flow_senders h to_all h_is
@@ -296,9 +299,11 @@ module _ (plan : Plan) (timing : Timing) (apart : ArePlannedApart (units_of plan
 
   last_chosen : (k : ℕ) → 5 + k < n → Has (last_choice packets k)
   last_chosen k below = elim (cases_lt k packets) [
-    | inl less ↦ subst (λ (b : Bool). Has (if b then Carries (Packet k) else (if ltb k (packets + 1) then Carries EndAcknowledged else Sends (k - (packets + 1)))))
+    | inl less ↦ subst (λ (b : Bool). Has (if b then Carries (Packet k)
+        else (if ltb k (packets + 1) then Carries EndAcknowledged else Sends (k - (packets + 1)))))
         (sym (lt-ltb k packets less)) (omega (arith, less, few))
-    | inr past ↦ subst (λ (b : Bool). Has (if b then Carries (Packet k) else (if ltb k (packets + 1) then Carries EndAcknowledged else Sends (k - (packets + 1)))))
+    | inr past ↦ subst (λ (b : Bool). Has (if b then Carries (Packet k)
+        else (if ltb k (packets + 1) then Carries EndAcknowledged else Sends (k - (packets + 1)))))
         (sym (le-ltb k packets past)) (elim (cases_lt k (packets + 1)) [
           | inl one ↦ subst (λ (b : Bool). Has (if b then Carries EndAcknowledged else Sends (k - (packets + 1)))) (sym (lt-ltb k (packets + 1) one)) tt
           | inr rest ↦ subst (λ (b : Bool). Has (if b then Carries EndAcknowledged else Sends (k - (packets + 1)))) (sym (le-ltb k (packets + 1) rest))
@@ -364,10 +369,13 @@ module _ (plan : Plan) (timing : Timing) (apart : ArePlannedApart (units_of plan
   destination (One w) known = few_address w (known w refl)
 
   part_few : (x : Part) → part_identifier timing x (address u) (address v) < 2 ^ 29
-  part_few RequestToSend = let a = few_address u sends in let b = few_address v receives in let top = timing.transport_priority_range in omega (arith, a, b, top)
+  part_few RequestToSend = let a = few_address u sends in let b = few_address v receives in let top = timing.transport_priority_range
+      in omega (arith, a, b, top)
   part_few (Packet k) = let a = few_address u sends in let b = few_address v receives in let top = timing.transport_priority_range in omega (arith, a, b, top)
-  part_few (ClearToSend k) = let a = few_address u sends in let b = few_address v receives in let top = timing.transport_priority_range in omega (arith, a, b, top)
-  part_few EndAcknowledged = let a = few_address u sends in let b = few_address v receives in let top = timing.transport_priority_range in omega (arith, a, b, top)
+  part_few (ClearToSend k) = let a = few_address u sends in let b = few_address v receives in let top = timing.transport_priority_range
+      in omega (arith, a, b, top)
+  part_few EndAcknowledged = let a = few_address u sends in let b = few_address v receives in let top = timing.transport_priority_range
+      in omega (arith, a, b, top)
 
   ident_few : (c : Choice) → ident_of c < 2 ^ 29
   ident_few Alone = few_bits group.priority group.pgn (goes_to address flow.to) (address flow.sender) group.priority_range number
@@ -389,14 +397,21 @@ module _ (plan : Plan) (timing : Timing) (apart : ArePlannedApart (units_of plan
 
   -- behind the first five slots
   is_sent : (k : ℕ) (x : Source) → k < packets + 1 + more → source_of f g r w (last_choice packets k) ≡ x → HasBeenSent bus sent x
-  is_sent k x below is = (suc (suc (suc (suc (suc k)))), omega (arith, below), is, let far = ends_before width (5 + k) n (omega (arith, below)) in omega (arith, far))
+  is_sent k x below is = (
+    suc (suc (suc (suc (suc k)))),
+    omega (arith, below),
+    is,
+    let far = ends_before width (5 + k) n (omega (arith, below))
+        in omega (arith, far),
+  )
 
   first_sent : (p : ℕ) (x : Source) → p < 5 → sent.source p ≡ x → HasBeenSent bus sent x
   first_sent p x below is = (p, omega (arith, below), is, let far = ends_before width p n (omega (arith, below)) in omega (arith, far))
 
   carries : (k : ℕ) → k < packets → HasBeenSent bus sent (InSession g (Packet k))
   carries k below = is_sent k (InSession g (Packet k)) (omega (arith, below))
-      (ap (λ (b : Bool). source_of f g r w (if b then Carries (Packet k) else (if ltb k (packets + 1) then Carries EndAcknowledged else Sends (k - (packets + 1)))))
+      (ap (λ (b : Bool). source_of f g r w (if b then Carries (Packet k)
+      else (if ltb k (packets + 1) then Carries EndAcknowledged else Sends (k - (packets + 1)))))
       (lt-ltb k packets below))
 
   acknowledges : HasBeenSent bus sent (InSession g EndAcknowledged)

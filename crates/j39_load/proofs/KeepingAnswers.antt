@@ -96,7 +96,8 @@ some_parts (request ∷ requests) flow = go (serves request flow) request.period
 -- ---- a flow that comes only as an answer
 
 -- how many ask for it
-pub some_askers : (requests : List RequestPlan) (flow : FlowPlan) → is_answering requests flow ≡ true → askers_of requests flow ≡ length (asking_periods requests flow)
+pub some_askers : (requests : List RequestPlan) (flow : FlowPlan) → is_answering requests flow ≡ true
+    → askers_of requests flow ≡ length (asking_periods requests flow)
 some_askers requests flow is =
     let on = (and_parts flow.on_request (is_some flow.pace && not (eqb (length (asking_periods requests flow)) 0)) is).0 in
     ap (λ (b : Bool). if b then length (asking_periods requests flow) else 0) on
@@ -105,7 +106,8 @@ some_askers requests flow is =
 pub none_where_unasked : (requests : List RequestPlan) (flow : FlowPlan) (pace : Pace) → flow.pace ≡ Some pace → is_answering requests flow ≡ false
     → askers_of requests flow ≡ 0
 none_where_unasked requests flow pace paced isnt =
-    go flow.on_request (length (asking_periods requests flow)) (ap (λ (o : Option Pace). flow.on_request && (is_some o && not (eqb (length (asking_periods requests flow)) 0))) (sym paced) ∙ isnt)
+    go flow.on_request (length (asking_periods requests flow)) (ap
+    (λ (o : Option Pace). flow.on_request && (is_some o && not (eqb (length (asking_periods requests flow)) 0))) (sym paced) ∙ isnt)
   where
     go : (b : Bool) (n : ℕ) → b && (true && not (eqb n 0)) ≡ false → (if b then n else 0) ≡ 0
     go false n none = refl
@@ -133,7 +135,8 @@ asked_where_some requests flow pace k paced some =
 -- ---- its answers
 
 -- what is asked of messages holds of fewer of them
-pub narrowed : (plan : Plan) (timing : Timing) (flow : FlowPlan) (Is Those : ℕ → Type 0) (AreAlike : ℕ → ℕ → Type 0) (within at there : ℕ → ℕ) (of : ℕ → Answered)
+pub narrowed : (plan : Plan) (timing : Timing) (flow : FlowPlan) (Is Those : ℕ → Type 0) (AreAlike : ℕ → ℕ → Type 0) (within at there : ℕ → ℕ)
+    (of : ℕ → Answered)
     → ((m : ℕ) → Those m → Is m) → ((m : ℕ) → Those m → there m ≡ at m) → AnswerRequests plan timing flow Is AreAlike within at of
     → AnswerRequests plan timing flow Those AreAlike within there of
 narrowed plan timing flow Is Those AreAlike within at there of some same kept = record {
@@ -191,7 +194,8 @@ module _ (plan : Plan) (timing : Timing) (flow : FlowPlan) (Is : ℕ → Type 0)
         (at_spot (asked_every flow) requests (of m).request it.asked ms 1 it.its (every_is (of m).request ms it)).1 in
         subst (λ (x : ℕ). (of m).moment * bit_parts timing + ((of n).number - (of m).number) * ms_parts timing x < ((of n).moment + 1) * bit_parts timing)
         (sym pace)
-        (in_parts (of m).moment (of n).moment ((of n).number - (of m).number) ms (bit_time timing.bitrate) (longest_million timing) (shortest_million timing) far);
+        (in_parts (of m).moment (of n).moment ((of n).number - (of m).number) ms (bit_time timing.bitrate) (longest_million timing)
+        (shortest_million timing) far);
   }
     where
       one_request : (m n : ℕ) → Is m → Is n → its_spot m ≡ its_spot n → (of m).request ≡ (of n).request

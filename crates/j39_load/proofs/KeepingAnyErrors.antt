@@ -26,7 +26,8 @@ use Rattle.j39_timing.specs.TimedFrames.{Schedule}
 
 module _ (plan : Plan) (timing : Timing) (stays : UnitPlan → Bool) (states : DecidesWhoStays plan stays) (clean : Clean plan) (s : Schedule) (d : Damaged)
     (bus : IsBusWithErrors s d) (planned : ℕ → Bool) (sent : FrameSources) (held : Held) (keeps : KeepsToPlan plan timing s planned sent held)
-    (rate : ErrorRate) (errors : KeepsErrors timing rate s d planned sent) (controllers : Controllers) (queues : KeepsQueues plan timing s controllers planned sent)
+    (rate : ErrorRate) (errors : KeepsErrors timing rate s d planned sent) (controllers : Controllers)
+    (queues : KeepsQueues plan timing s controllers planned sent)
     (more : KeepsErrorsInAnyOrder plan timing s controllers d planned sent) (i : ℕ) (single : IsSingleFlow plan i) where
   abbrev all : List (Option FlowFrames)
   all = asks plan timing stays states clean s d bus planned sent held keeps rate errors
@@ -62,17 +63,21 @@ module _ (plan : Plan) (timing : Timing) (stays : UnitPlan → Bool) (states : D
   own_unit p past = ap (λ (b : Bool). cond b (controllers.unit p) more.own) (le-ltb p s.count past)
 
   -- queue groups are as they were
-  module _ (around : FlowFrames) (level : ℕ) (kept : KeepToQueueGroup timing ends s planned (origins_of plan sent) (queue_group_of timing ends all around level)) where
+  module _ (around : FlowFrames) (level : ℕ) (kept : KeepToQueueGroup timing ends s planned (origins_of plan sent)
+      (queue_group_of timing ends all around level)) where
     abbrev has : ℕ → Bool
     has = (queue_group_of timing ends all around level).has
 
-    never : (p : ℕ) → IsDamage plan s d planned sent rate (length all) p → has ((of plan timing stays states clean s d bus planned sent held keeps rate errors).source p) ≡ true → ⊥
-    never p at is = true≢false (sym is ∙ gone (planned_at all ((of plan timing stays states clean s d bus planned sent held keeps rate errors).source p)) (behind_all p at))
+    never : (p : ℕ) → IsDamage plan s d planned sent rate (length all) p
+        → has ((of plan timing stays states clean s d bus planned sent held keeps rate errors).source p) ≡ true → ⊥
+    never p at is = true≢false (sym is ∙ gone (planned_at all ((of plan timing stays states clean s d bus planned sent held keeps rate errors).source p))
+        (behind_all p at))
       where
         gone : (x : FlowFrames) → x ≡ no_frames → is_of_queue_group (leasts_of all) (with_unplanned timing ends around) level x ≡ false
         gone x same = ap (is_of_queue_group (leasts_of all) (with_unplanned timing ends around) level) same
 
-    queue_group_with : KeepToQueueGroup timing ends bus_with is_foreseen (of plan timing stays states clean s d bus planned sent held keeps rate errors) (queue_group_of timing ends all around level)
+    queue_group_with : KeepToQueueGroup timing ends bus_with is_foreseen (of plan timing stays states clean s d bus planned sent held keeps rate errors)
+        (queue_group_of timing ends all around level)
     queue_group_with = record {
       identifiers = λ p in_p isnt seen. elim (its_kind p in_p) [
         | inl at ↦ let ident = at.frame.ident in let queued = at.frame.queued in
@@ -93,7 +98,8 @@ module _ (plan : Plan) (timing : Timing) (stays : UnitPlan → Bool) (states : D
     }
 
   pub keeps_any_with_errors : i < length all
-      → AreFramesInAnyOrder timing ends all bus_with (damage_ordered s controllers more.own) is_foreseen (of plan timing stays states clean s d bus planned sent held keeps rate errors) i
+      → AreFramesInAnyOrder timing ends all bus_with (damage_ordered s controllers more.own) is_foreseen
+      (of plan timing stays states clean s d bus planned sent held keeps rate errors) i
   keeps_any_with_errors flow = record {
     known = keeps_with_errors plan timing stays states clean s d bus planned sent held keeps rate errors i flow single;
     of_unit = λ p in_p is un. elim (its_kind p in_p) [

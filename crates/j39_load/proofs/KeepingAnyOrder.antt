@@ -23,7 +23,8 @@ use Rattle.j39_load.specs.SentFrames.{Single, First, InSession, Asking, Announci
 use Rattle.j39_load.proofs.KnownFrames.{IsKnown, TakesAny, any_known, queue_cases}
 use Rattle.j39_load.proofs.PlacedFrames.{first_read, read, request_frames_read, session_read}
 use Rattle.j39_load.proofs.KeepingPlan.{keeps_premises, of_source}
-use Rattle.j39_load.proofs.SharedIdentifiers.{IsGroupFrame, broadcast_made, broadcast_or_part, no_broadcast, no_part, no_request, of_first, of_single, one_asks, one_sender, one_sends}
+use Rattle.j39_load.proofs.SharedIdentifiers.{IsGroupFrame, broadcast_made, broadcast_or_part, no_broadcast, no_part, no_request, of_first, of_single, one_asks}
+use Rattle.j39_load.proofs.SharedIdentifiers.{one_sender, one_sends}
 use Rattle.j39_load.proofs.SharedIdentifiers.{part_made, parts_between, request_made, request_or_broadcast, request_or_part}
 use Rattle.j39_timing.specs.AnyOrder.{Controllers, IsLegalInAnyOrder, IsUnordered}
 use Rattle.j39_timing.specs.TimedFrames.{Schedule}
@@ -55,7 +56,8 @@ module _ (plan : Plan) (timing : Timing) (stays : UnitPlan → Bool) (states : D
             | inl first ↦
                 absurd (true≢false (sym (queues.order one.of_units.sender unit at first) ∙ (ap controllers.keeps_order (sym from) ∙ un)))
             | inr any ↦
-                subst (λ (u : ℕ). are_of_unit one.frames u ≡ true) (sym from) (one.of_units.of_sender (any_known plan.units.items one.of_units.sender unit at any))
+                subst (λ (u : ℕ). are_of_unit one.frames u ≡ true) (sym from)
+                (one.of_units.of_sender (any_known plan.units.items one.of_units.sender unit at any))
           ]
           | inr (past, none) ↦ absurd (let below = one.of_units.planned in omega (arith, past, below))
         ]
@@ -111,7 +113,8 @@ module _ (plan : Plan) (timing : Timing) (stays : UnitPlan → Bool) (states : D
         ∙ subst (λ (u : ℕ). (counts u || false) ≡ true) (one_sender plan timing clean s held t (keeps.held_apart t) f g p q x y same) (sym at_x ∙ is)
 
     -- of two frames with one identifier both are of the queue group, or none is
-    both_of : (a b : Source) (release other p q t : ℕ) → IsFrameOf plan timing s held sent.broadcasts a release p → IsFrameOf plan timing s held sent.broadcasts b other q
+    both_of : (a b : Source) (release other p q t : ℕ) → IsFrameOf plan timing s held sent.broadcasts a release p
+        → IsFrameOf plan timing s held sent.broadcasts b other q
         → IsQueuedAt s p t → IsQueuedAt s q t → s.ident p ≡ s.ident q → has (source_place plan a) ≡ true → has (source_place plan b) ≡ true
     both_of (Single f) (Single g) release other p q t x y at_p at_q same is =
         of_sender f g p q t (single_made f release p t x at_p) (single_made g other q t y at_q) same (at_single f release p x) (at_single g other q y) is
@@ -156,18 +159,21 @@ module _ (plan : Plan) (timing : Timing) (stays : UnitPlan → Bool) (states : D
         (part_made plan timing clean s held t (keeps.held_apart t) f part release p x at_p) (sym same))
     both_of (InSession f a) (InSession g b) release other p q t x y at_p at_q same is =
         at_session g b other q y
-        ∙ parts_between plan clean (held.named t) (held.address t) (keeps.held_apart t) counts (s.ident p) (s.ident q) x.flow.sender x.receiver y.flow.sender y.receiver
+        ∙ parts_between plan clean (held.named t) (held.address t) (keeps.held_apart t) counts (s.ident p)
+        (s.ident q) x.flow.sender x.receiver y.flow.sender y.receiver
         (part_made plan timing clean s held t (keeps.held_apart t) f a release p x at_p)
         (part_made plan timing clean s held t (keeps.held_apart t) g b other q y at_q) same (sym (at_session f a release p x) ∙ is)
     both_of (InSession f part) (Asking r) release other p q t x y at_p at_q same is =
-        absurd (request_or_part plan clean (held.named t) (held.address t) (keeps.held_apart t) (s.ident q) (s.ident p) y.asked.sender x.flow.sender x.receiver y.asked.to
+        absurd (request_or_part plan clean (held.named t) (held.address t) (keeps.held_apart t) (s.ident q)
+        (s.ident p) y.asked.sender x.flow.sender x.receiver y.asked.to
         (request_made plan timing clean s held t (keeps.held_apart t) r other q y at_q)
         (part_made plan timing clean s held t (keeps.held_apart t) f part release p x at_p) (sym same))
     both_of (Asking r) (Single g) release other p q t x y at_p at_q same is =
         absurd (no_request plan timing clean s held t (keeps.held_apart t) g q (single_made g other q t y at_q) (s.ident p) x.asked.sender x.asked.to
         (request_made plan timing clean s held t (keeps.held_apart t) r release p x at_p) (sym same))
     both_of (Asking r) (InSession g part) release other p q t x y at_p at_q same is =
-        absurd (request_or_part plan clean (held.named t) (held.address t) (keeps.held_apart t) (s.ident p) (s.ident q) x.asked.sender y.flow.sender y.receiver x.asked.to
+        absurd (request_or_part plan clean (held.named t) (held.address t) (keeps.held_apart t) (s.ident p)
+        (s.ident q) x.asked.sender y.flow.sender y.receiver x.asked.to
         (request_made plan timing clean s held t (keeps.held_apart t) r release p x at_p)
         (part_made plan timing clean s held t (keeps.held_apart t) g part other q y at_q) same)
     both_of (Asking r) (Asking k) release other p q t x y at_p at_q same is =
@@ -184,7 +190,8 @@ module _ (plan : Plan) (timing : Timing) (stays : UnitPlan → Bool) (states : D
         (broadcast_made plan timing clean s held t (keeps.held_apart t) sent.broadcasts 60416 u m other q (inl refl) y at_q)
         (part_made plan timing clean s held t (keeps.held_apart t) f part release p x at_p) (sym same))
     both_of (Asking r) (Announcing u m) release other p q t x y at_p at_q same is =
-        absurd (request_or_broadcast plan clean (held.named t) (held.address t) (keeps.held_apart t) (s.ident p) (s.ident q) x.asked.sender u 60416 x.asked.to (inl refl)
+        absurd (request_or_broadcast plan clean (held.named t) (held.address t) (keeps.held_apart t) (s.ident p) (s.ident q) x.asked.sender u 60416 x.asked.to
+        (inl refl)
         (request_made plan timing clean s held t (keeps.held_apart t) r release p x at_p)
         (broadcast_made plan timing clean s held t (keeps.held_apart t) sent.broadcasts 60416 u m other q (inl refl) y at_q) same)
     both_of (Announcing u m) (Single g) release other p q t x y at_p at_q same is =
@@ -195,7 +202,8 @@ module _ (plan : Plan) (timing : Timing) (stays : UnitPlan → Bool) (states : D
         (broadcast_made plan timing clean s held t (keeps.held_apart t) sent.broadcasts 60416 u m release p (inl refl) x at_p)
         (part_made plan timing clean s held t (keeps.held_apart t) g part other q y at_q) same)
     both_of (Announcing u m) (Asking r) release other p q t x y at_p at_q same is =
-        absurd (request_or_broadcast plan clean (held.named t) (held.address t) (keeps.held_apart t) (s.ident q) (s.ident p) y.asked.sender u 60416 y.asked.to (inl refl)
+        absurd (request_or_broadcast plan clean (held.named t) (held.address t) (keeps.held_apart t) (s.ident q) (s.ident p) y.asked.sender u 60416 y.asked.to
+        (inl refl)
         (request_made plan timing clean s held t (keeps.held_apart t) r other q y at_q)
         (broadcast_made plan timing clean s held t (keeps.held_apart t) sent.broadcasts 60416 u m release p (inl refl) x at_p) (sym same))
     both_of (Single f) (Carrying u m i) release other p q t x y at_p at_q same is =
@@ -206,7 +214,8 @@ module _ (plan : Plan) (timing : Timing) (stays : UnitPlan → Bool) (states : D
         (broadcast_made plan timing clean s held t (keeps.held_apart t) sent.broadcasts 60160 u m other q (inr refl) y.0 at_q)
         (part_made plan timing clean s held t (keeps.held_apart t) f part release p x at_p) (sym same))
     both_of (Asking r) (Carrying u m i) release other p q t x y at_p at_q same is =
-        absurd (request_or_broadcast plan clean (held.named t) (held.address t) (keeps.held_apart t) (s.ident p) (s.ident q) x.asked.sender u 60160 x.asked.to (inr refl)
+        absurd (request_or_broadcast plan clean (held.named t) (held.address t) (keeps.held_apart t) (s.ident p) (s.ident q) x.asked.sender u 60160 x.asked.to
+        (inr refl)
         (request_made plan timing clean s held t (keeps.held_apart t) r release p x at_p)
         (broadcast_made plan timing clean s held t (keeps.held_apart t) sent.broadcasts 60160 u m other q (inr refl) y.0 at_q) same)
     both_of (Carrying u m i) (Single g) release other p q t x y at_p at_q same is =
@@ -217,7 +226,8 @@ module _ (plan : Plan) (timing : Timing) (stays : UnitPlan → Bool) (states : D
         (broadcast_made plan timing clean s held t (keeps.held_apart t) sent.broadcasts 60160 u m release p (inr refl) x.0 at_p)
         (part_made plan timing clean s held t (keeps.held_apart t) g part other q y at_q) same)
     both_of (Carrying u m i) (Asking r) release other p q t x y at_p at_q same is =
-        absurd (request_or_broadcast plan clean (held.named t) (held.address t) (keeps.held_apart t) (s.ident q) (s.ident p) y.asked.sender u 60160 y.asked.to (inr refl)
+        absurd (request_or_broadcast plan clean (held.named t) (held.address t) (keeps.held_apart t) (s.ident q) (s.ident p) y.asked.sender u 60160 y.asked.to
+        (inr refl)
         (request_made plan timing clean s held t (keeps.held_apart t) r other q y at_q)
         (broadcast_made plan timing clean s held t (keeps.held_apart t) sent.broadcasts 60160 u m release p (inr refl) x.0 at_p) (sym same))
     both_of (Announcing u m) (Announcing v w) release other p q t x y at_p at_q same is =
@@ -249,7 +259,8 @@ module _ (plan : Plan) (timing : Timing) (stays : UnitPlan → Bool) (states : D
       own_identifiers = λ p q t in_p in_q seen is_p of_it at_p at_q same. elim (cases_Bool (planned q)) [
         | inl is_q ↦ (
           is_q,
-          both_of (sent.source p) (sent.source q) (sent.release p) (sent.release q) p q t (keeps.frames p in_p is_p) (keeps.frames q in_q is_q) at_p at_q same of_it,
+          both_of (sent.source p) (sent.source q) (sent.release p) (sent.release q) p q t (keeps.frames p in_p is_p)
+              (keeps.frames q in_q is_q) at_p at_q same of_it,
         )
         | inr not_q ↦
             let any = any_of p in_p is_p of_it in

@@ -25,7 +25,8 @@ use Rattle.j39_load.specs.Loads.{bits_per_ms, is_any}
 use Rattle.j39_load.specs.Ranks.{AreHeldApart}
 use Rattle.j39_load.specs.SentFrames.{Announcing, Carrying, FrameSources, HasPeriodMs, Held, Single, goes_to}
 use Rattle.j39_load.proofs.DamagedFirst as damaged_first
-use Rattle.j39_load.proofs.KeepingPlanned.{IsAskedSeldom, keeps_queues, none_foreseen, none_other, of_one_source, one_source_kept, period_is, room_for, source_can_be_kept}
+use Rattle.j39_load.proofs.KeepingPlanned.{IsAskedSeldom, keeps_queues, none_foreseen, none_other, of_one_source, one_source_kept, period_is, room_for}
+use Rattle.j39_load.proofs.KeepingPlanned.{source_can_be_kept}
 use Rattle.j39_load.proofs.KeepingPlanned.{planned_address, planned_apart, planned_controllers, planned_held, planned_receiver, planned_sender, planned_single}
 use Rattle.j39_timing.proofs.Rounds.{rounds_legal}
 use Rattle.j39_load.proofs.Milliseconds.{at_once, in_ms_behind, in_unit_ms}
@@ -137,7 +138,8 @@ module _ (plan : Plan) (timing : Timing) (apart : ArePlannedApart (units_of plan
   late_sent = of_one_source (Single f) long_step
 
   late_keeps : IsAskedSeldom plan flow → KeepsToPlan plan timing late_bus all_planned late_sent held
-  late_keeps few = one_source_kept plan timing apart f flow pace its paced few (Single f) long_step (omega arith) (λ ms every. every) (λ g is. is) to_one late_bus
+  late_keeps few = one_source_kept plan timing apart f flow pace its paced few (Single f) long_step (omega arith) (λ ms every. every)
+      (λ g is. is) to_one late_bus
       (λ p in_p. planned_single plan timing apart f flow pace group its paced of short late_bus (p * long_step) p (omega arith) (omega arith)
       (in_unit_ms timing pace.jitter (p * long_step) (p * long_step + jitter) (omega arith)) refl)
 
@@ -193,7 +195,8 @@ module _ (plan : Plan) (timing : Timing) (apart : ArePlannedApart (units_of plan
           omega (arith, none);
     }
 
-    pub can_be_kept_together : IsAskedSeldom plan flow → IsPgn group.pgn → (rate : ErrorRate) → timing.errors ≡ Some rate → CanBeKeptTogether plan timing rate f pace n half_sent
+    pub can_be_kept_together : IsAskedSeldom plan flow → IsPgn group.pgn → (rate : ErrorRate) → timing.errors ≡ Some rate
+        → CanBeKeptTogether plan timing rate f pace n half_sent
     can_be_kept_together few number rate stated =
         let legal = damaged_first.legal n long_step jitter (80 + 10 * group.most) ident some_bits room half_sent (omega (arith, short)) in
         record {

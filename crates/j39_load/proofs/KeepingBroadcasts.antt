@@ -1,5 +1,6 @@
 -- On a bus that keeps to a plan in the plan's own words each unit queues no more frames of long messages to all than its flows want.
-use Rattle.std.proofs.Common.{◌≡◌, ℕ, zero, suc, ◌+◌, ◌*◌, ◌<◌, ◌≤◌, ◌⊎◌, max, Bool, true, false, ◌&&◌, eqb, leb, ltb, cond, List, [], ◌∷◌, length, get_or, map, All}
+use Rattle.std.proofs.Common.{◌≡◌, ℕ, zero, suc, ◌+◌, ◌*◌, ◌<◌, ◌≤◌, ◌⊎◌, max, Bool, true, false, ◌&&◌, eqb, leb, ltb, cond, List, [], ◌∷◌, length, get_or, map}
+use Rattle.std.proofs.Common.{All}
 use Rattle.std.proofs.Common.{Option, Some, None, IfSome}
 use Rattle.std.proofs.Common.{refl, sym, ap, ◌∙◌, subst, inl, inr, arith}
 use Rattle.std.proofs.lemmas.Bool.{and_parts, cases_Bool, cases_lt, eq-eqb, eqb-true}
@@ -49,7 +50,8 @@ use Rattle.j39_timing.specs.declared.stream.Stream.{Stream}
 use Rattle.j39_timing.specs.declared.stream.WantedBy.{WantedBy}
 use Rattle.j39_timing.specs.declared.stream.WantedBy.TheVariants.{Sender}
 use Rattle.j39_timing.specs.declared.wants.Want.{Want}
-use Rattle.j39_timing.specs.WantedMessages.{AreAnnouncements, AreFramesOfMessages, AreReleasedApart, AreWantedInTurn, HasLongest, HavePeriods, UnitMessages, nothing}
+use Rattle.j39_timing.specs.WantedMessages.{AreAnnouncements, AreFramesOfMessages, AreReleasedApart, AreWantedInTurn, HasLongest, HavePeriods, UnitMessages}
+use Rattle.j39_timing.specs.WantedMessages.{nothing}
 use Rattle.j39_timing.specs.WantedMessages.{WantNoMore, want_at, wanted_in}
 use Rattle.j39_timing.proofs.Answering.{frames_answer, messages_answer}
 use Rattle.j39_timing.proofs.AskedFrames.{announcements_asked, apart_want_no_more, packets_asked}
@@ -318,7 +320,8 @@ module _ (plan : Plan) (timing : Timing) (stays : UnitPlan → Bool) (s : Schedu
           (requesters_each timing (asking_periods plan.requests.items first.flow))
           (answered plan timing first.flow Is (λ m n. Unit {0}) (λ m. answered_within first.pace) (b.wanted u) (answers.of_message u) kept (λ m. 0))
           (some_bit timing)
-          (no_oftener plan timing first.flow Is (λ m n. Unit {0}) (λ m. answered_within first.pace) (b.wanted u) (answers.of_message u) kept first.pace first.paced
+          (no_oftener plan timing first.flow Is (λ m n. Unit {0}) (λ m. answered_within first.pace) (b.wanted u)
+          (answers.of_message u) kept first.pace first.paced
           is_asked l (in_l, its_f))
           (omega (arith, period, positive))
           (subst (λ (x : ℕ). x * bit_parts timing ≤ ms_parts timing first.pace.period) (sym period) paced)
@@ -335,14 +338,16 @@ module _ (plan : Plan) (timing : Timing) (stays : UnitPlan → Bool) (s : Schedu
     few_wanted f t span = elim (cases_lt 0 (wanted_in (unit_messages u) f t span)) [
       | inr none ↦ let some = some_more f in omega (arith, none, some)
       | inl some ↦
-          let (l, in_l, counted) = one_counts (b.count u) (λ m. eqb (spot u whole (b.flow u m)) f && (leb t (b.wanted u m) && ltb (b.wanted u m) (t + span))) some in
+          let (l, in_l, counted) = one_counts (b.count u) (λ m. eqb (spot u whole (b.flow u m)) f
+          && (leb t (b.wanted u m) && ltb (b.wanted u m) (t + span))) some in
           let its_f = eqb-true (spot u whole (b.flow u l)) f
           (and_parts (eqb (spot u whole (b.flow u l)) f) (leb t (b.wanted u l) && ltb (b.wanted u l) (t + span)) counted).0 in
           by_askers l in_l its_f (askers_at l in_l) refl
     ]
       where
         by_askers : (l : ℕ) (in_l : l < b.count u) → spot u whole (b.flow u l) ≡ f → (k : ℕ) → askers_at l in_l ≡ k
-            → wanted_in (unit_messages u) f t span + 1 ≤ div_ceil (span + (want_at (demand u want under_way) f).jitter) (want_at (demand u want under_way) f).period
+            → wanted_in (unit_messages u) f t span + 1 ≤ div_ceil (span + (want_at (demand u want under_way) f).jitter)
+            (want_at (demand u want under_way) f).period
             + (want_at (demand u want under_way) f).more
         by_askers l in_l its_f zero none =
             apart_want_no_more (demand u want under_way) (unit_messages u) f (released f l in_l its_f none) periods (some_more f) t span
@@ -432,7 +437,8 @@ module _ (plan : Plan) (timing : Timing) (stays : UnitPlan → Bool) (s : Schedu
           record { copy = copy; message = n; source = source; known = frame.known; queued = frame.at_once ∙ sym copy.since }
     ]
 
-    packets_most : (u m k : ℕ) → m < b.count u → ((traffic plan timing stays).stream (source_place plan (Carrying u m k))).wanted ≡ Some (Sender (packets_demand u))
+    packets_most : (u m k : ℕ) → m < b.count u → ((traffic plan timing stays).stream (source_place plan (Carrying u m k))).wanted ≡ Some
+        (Sender (packets_demand u))
         → (t span : ℕ) → releases_in w plans of (source_place plan (Carrying u m k)) t span ≤ frames_wanted span (demand_by Packets (wants_of whole u))
     packets_most u m k below some t span =
         packets_asked w plans of (source_place plan (Carrying u m k)) (demand_by Packets (wants_of whole u)) (unit_messages u)
@@ -565,7 +571,8 @@ module _ (plan : Plan) (timing : Timing) (stays : UnitPlan → Bool) (s : Schedu
       -- ---- what comes only as an answer
 
       -- who asks for it
-      asked_by : (x : Source) (stream_of : Stream) → IsPaced plan timing stays x stream_of → (want : Want) → askers_want stream_of ≡ Some want → IsAskedBy plan timing stays x stream_of want
+      asked_by : (x : Source) (stream_of : Stream) → IsPaced plan timing stays x stream_of → (want : Want) → askers_want stream_of ≡ Some want
+          → IsAskedBy plan timing stays x stream_of want
       asked_by (Single f) stream_of paced want is = paced.asked want is
       asked_by (First f) stream_of paced want is = paced.asked want is
       asked_by (InSession f part) stream_of paced want is = paced.asked want is
@@ -648,7 +655,8 @@ module _ (plan : Plan) (timing : Timing) (stays : UnitPlan → Bool) (s : Schedu
               (y.copy.below, y.copy.is, subst (λ (f : ℕ). IsOfFlow f (sent.source q)) one y.by.of_flow)
 
           its_answers : AnswerRequests plan timing flow (IsOf w plans of j) AreAlike within w.queued answers.of_frame
-          its_answers = narrowed plan timing flow (IsFrameOfFlow s planned sent x.by.place) (IsOf w plans of j) AreAlike within s.queued w.queued answers.of_frame
+          its_answers = narrowed plan timing flow (IsFrameOfFlow s planned sent x.by.place)
+              (IsOf w plans of j) AreAlike within s.queued w.queued answers.of_frame
               of_its_flow (λ q is. (each_asked q is).copy.queued) (answers.frames x.by.place x.by.answering)
 
           abbrev turn_at : ℕ → ℕ
@@ -667,7 +675,8 @@ module _ (plan : Plan) (timing : Timing) (stays : UnitPlan → Bool) (s : Schedu
               let y = each_asked m is_m in
               let z = each_asked n is_n in
               one_source plan timing stays s held b keeps.messages (sent.source m) (sent.source n) (sent.release m) (sent.release n) m n
-              (flow_paced y.by.place (sent.source m) y.by.of_flow) (frames m y.copy.below y.copy.is) (frames n z.copy.below z.copy.is) (y.there ∙ sym z.there) turn
+              (flow_paced y.by.place (sent.source m) y.by.of_flow) (frames m y.copy.below y.copy.is) (frames n z.copy.below z.copy.is)
+              (y.there ∙ sym z.there) turn
 
           answered_most : IsOf w plans of j p → (t span : ℕ) → queuings_in w plans of j t span ≤ frames_of_want (span + (stream j).jitter) want
           answered_most is =
@@ -676,11 +685,13 @@ module _ (plan : Plan) (timing : Timing) (stays : UnitPlan → Bool) (s : Schedu
               frames_answer w plans of j (stream j).jitter (ms_parts timing pace.period) want (requesters_each timing (asking_periods plan.requests.items flow))
               (answered plan timing flow (IsOf w plans of j) AreAlike within w.queued answers.of_frame its_answers turn_at)
               (some_bit timing)
-              (no_oftener plan timing flow (IsOf w plans of j) AreAlike within w.queued answers.of_frame its_answers pace x.by.answering.paced x.by.answering.answers p is)
+              (no_oftener plan timing flow
+              (IsOf w plans of j) AreAlike within w.queued answers.of_frame its_answers pace x.by.answering.paced x.by.answering.answers p is)
               (omega (arith, period, positive))
               (subst (λ (y : ℕ). y * bit_parts timing ≤ ms_parts timing pace.period) (sym period) (period_in_parts timing pace.period))
               x.by.askers
-              (are_answers plan timing flow (IsOf w plans of j) AreAlike within w.queued answers.of_frame its_answers turn_at ((stream j).jitter + want.jitter) want.frames
+              (are_answers plan timing flow (IsOf w plans of j) AreAlike within w.queued answers.of_frame its_answers turn_at
+              ((stream j).jitter + want.jitter) want.frames
               late_at_most (λ q its. (each_asked q its).by.turn) alike)
 
       -- one of the frames that count

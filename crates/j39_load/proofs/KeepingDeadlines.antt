@@ -18,7 +18,8 @@ use Rattle.j39_load.specs.SentFrames.{Asking, Announcing, Broadcasts, Carrying, 
 use Rattle.j39_load.specs.SentFrames.{IsWithinUnitMs, Source}
 use Rattle.j39_load.proofs.KeepingOneToAll as one
 use Rattle.j39_load.proofs.KeepingOneToAll.{OneToAll}
-use Rattle.j39_load.proofs.KeepingPlanned.{IsAskedSeldom, keeps_queues, slots_kept, planned_address, planned_apart, planned_controllers, planned_held, planned_sender}
+use Rattle.j39_load.proofs.KeepingPlanned.{IsAskedSeldom, keeps_queues, slots_kept, planned_address, planned_apart, planned_controllers, planned_held}
+use Rattle.j39_load.proofs.KeepingPlanned.{planned_sender}
 use Rattle.std.proofs.Math.Nat.{mul-le-mul_right}
 use Rattle.j39_load.proofs.Milliseconds.{in_unit_ms}
 use Rattle.j39_load.proofs.Slots.{slots}
@@ -151,7 +152,8 @@ module _ (plan : Plan) (timing : Timing) (apart : ArePlannedApart (units_of plan
     announcement = λ x m. 0;
     packet = λ x m k. suc k;
     announces = λ x m below. let (first, is) = one.only_message plan timing apart it x m below in (omega arith, refl, announced_by x m first is);
-    carries = λ x m k below inside. let (first, is) = one.only_message plan timing apart it x m below in (omega (arith, inside), refl, carried_by x m k first is);
+    carries = λ x m k below inside. let (first, is) = one.only_message plan timing apart it x m below
+        in (omega (arith, inside), refl, carried_by x m k first is);
     first_gap = λ x m below. gap_behind 0;
     next_gap = λ x m k below inside. gap_behind (suc k);
   }

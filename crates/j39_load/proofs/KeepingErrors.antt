@@ -312,7 +312,8 @@ module _ (plan : Plan) (timing : Timing) (stays : UnitPlan → Bool) (states : D
   above_zero p in_p is = above_zero_of (sent.source p) (sent.release p) p (bus.queued_first p in_p) (keeps.frames p in_p is)
 
   not_shared : (i : ℕ) → i < length asks → (error : Bool) → may_share (traffic plan timing stays) i (length asks + shift error) ≡ false
-  not_shared i below error = rw (ne_eqb (length asks + shift error) i (λ same. omega (arith, same, below)), damage_read error) (go (planned_at streams i).twin_ident)
+  not_shared i below error = rw (ne_eqb (length asks + shift error) i (λ same. omega (arith, same, below)), damage_read error)
+      (go (planned_at streams i).twin_ident)
     where
       go : (n : Option ℕ) → (is_same n None && (true || not (keep_order (planned_at streams i)))) ≡ false
       go None = refl
@@ -333,7 +334,8 @@ module _ (plan : Plan) (timing : Timing) (stays : UnitPlan → Bool) (states : D
     least_with : (p : ℕ) (at : IsFrameOfPlan p) → planned p ≡ true → (planned_at streams (of.source p)).least_ident ≤ w.ident p
     least_with p at is =
         let low = (of_source plan timing stays states clean s bus.queued_first planned sent held keeps p at.frame.below is).between.0 in
-        let its = ap (planned_at streams) at.source ∙ at_its_place plan timing stays states clean s bus.queued_first planned sent held keeps p at.frame.below is in
+        let its = ap
+        (planned_at streams) at.source ∙ at_its_place plan timing stays states clean s bus.queued_first planned sent held keeps p at.frame.below is in
         let least = ap (λ (f : FlowFrames). f.least_ident) its in
         let ident = at.frame.ident in
         omega (arith, low, least, ident)
@@ -348,7 +350,8 @@ module _ (plan : Plan) (timing : Timing) (stays : UnitPlan → Bool) (states : D
         let known = of_source plan timing stays states clean s bus.queued_first planned sent held keeps p at.frame.below is in
         let high : s.ident p ≤ known.frames.greatest_ident =
         subst (λ (x : Source). IsBelowGreatest x (s.ident p) known.frames.greatest_ident) (its_source p at is place) known.greatest in
-        let its = ap (planned_at streams) at.source ∙ at_its_place plan timing stays states clean s bus.queued_first planned sent held keeps p at.frame.below is in
+        let its = ap
+        (planned_at streams) at.source ∙ at_its_place plan timing stays states clean s bus.queued_first planned sent held keeps p at.frame.below is in
         let greatest = ap (λ (f : FlowFrames). f.greatest_ident) its in
         let ident = at.frame.ident in
         omega (arith, high, greatest, ident)
@@ -383,7 +386,8 @@ module _ (plan : Plan) (timing : Timing) (stays : UnitPlan → Bool) (states : D
         | inr at ↦ absurd (true≢false (sym (ap (λ (b : Bool). cond b (planned p) true) (le-ltb p s.count at.behind)) ∙ other))
       ];
       few_others = λ p from to in_p is source seen waits wait. elim (kinds p in_p) [
-        | inl at ↦ errors.few_others p from to at.frame.below (sym at.plans ∙ is) (subst HasTime (sym (its_source p at (sym at.plans ∙ is) source)) tt) seen waits wait
+        | inl at ↦ errors.few_others p from to at.frame.below (sym at.plans ∙ is)
+            (subst HasTime (sym (its_source p at (sym at.plans ∙ is) source)) tt) seen waits wait
         | inr at ↦ absurd (damage_never p at source)
       ];
     }

@@ -74,7 +74,8 @@ module _ (plan : Plan) (timing : Timing) (stays : UnitPlan → Bool) where
 
     -- how far messages of a flow are apart, of such frames, or how many are asked for
     module _ (f : ℕ) (flow : FlowPlan) (pace : Pace) (its : slice_get plan.flows.items f ≡ Some flow) (paced : flow.pace ≡ Some pace) (source : Source)
-        (frames : FlowFrames) (none : frames.stream.wanted ≡ None) (period : frames.stream.period ≡ bits_at_least timing pace.period) (of_flow : IsOfFlow f source)
+        (frames : FlowFrames) (none : frames.stream.wanted ≡ None) (period : frames.stream.period ≡ bits_at_least timing pace.period)
+        (of_flow : IsOfFlow f source)
         (every : HasPeriodMs plan f pace.period → IsSentEvery plan source pace.period) (turn : source_turn plan source < frames.stream.frames)
         (late : (moment at : ℕ) → IsWithinUnitMs timing (answered_in pace source) moment at
         → at ≤ moment + (frames.stream.jitter + (bits_at_most timing (answered_within pace) - bits_at_most timing pace.jitter))) where
@@ -112,7 +113,8 @@ module _ (plan : Plan) (timing : Timing) (stays : UnitPlan → Bool) where
               of_flow = of_flow;
               turn = turn;
               period = refl;
-              askers = (let size = some_askers plan.requests.items flow (asked_where_some plan.requests.items flow pace more paced is) in omega (arith, size, is));
+              askers = (let size = some_askers plan.requests.items flow (asked_where_some plan.requests.items flow pace more paced is)
+                  in omega (arith, size, is));
               late = late;
             });
       }
@@ -135,7 +137,8 @@ module _ (plan : Plan) (timing : Timing) (stays : UnitPlan → Bool) where
 
     module _ (f release p : ℕ) (ready : s.queued p ≤ s.start p) (one : IsSingleFrame plan timing s held f release p) where
       between : (group_ident low one.group one.flow ≤ s.ident p) × (s.ident p ≤ group_ident high one.group one.flow)
-      between = lies_between f one.flow one.its one.group (s.ident p) (s.queued p) (single_ident plan timing s held f release p (s.queued p) one (omega arith, ready))
+      between = lies_between f one.flow one.its one.group (s.ident p) (s.queued p)
+          (single_ident plan timing s held f release p (s.queued p) one (omega arith, ready))
 
       single_known : IsKnownHere s (Single f) release p
       single_known = record {
@@ -320,7 +323,8 @@ module _ (plan : Plan) (timing : Timing) (stays : UnitPlan → Bool) where
           let packets : packets_at plan f ≡ packets_of one.group.most = rw (one.its, one.of) refl in
           let window : of_unit units (λ (unit : UnitPlan). unit.window) v ≡ one.unit.window = rw (one.receiver_is) refl in
           subst (λ (n : ℕ). turn_of_part n part < frames.stream.frames) (sym packets)
-          (subst (λ (w : ℕ). turn_of_part (packets_of one.group.most) part < 2 + packets_of one.group.most + div_ceil (packets_of one.group.most) w) (sym window)
+          (subst (λ (w : ℕ). turn_of_part (packets_of one.group.most) part < 2 + packets_of one.group.most + div_ceil (packets_of one.group.most) w)
+          (sym window)
           (turn_below one.group.most one.unit.window one.unit.window_positive part one.is_part))
 
       session_known : IsKnownHere s (InSession f part) release p
@@ -368,12 +372,18 @@ module _ (plan : Plan) (timing : Timing) (stays : UnitPlan → Bool) where
       broadcast_between =
           let t = s.queued p in
           let is : s.ident p ≡ broadcast_ident timing number (held.address t) u = one.identifier t (omega arith, ready) in
-          let lies = ranks.lie_between plan stays states (held.address t) (by_plan t) message.flow (flow_units (b.flow u m) message.flow message.its) timing message.group in
+          let lies = ranks.lie_between plan stays states (held.address t) (by_plan t) message.flow
+          (flow_units (b.flow u m) message.flow message.its) timing message.group in
           let least : broadcast_ident timing number low u ≤ broadcast_ident timing number (held.address t) u =
-          subst (λ (x : ℕ). broadcast_ident timing number low x ≤ broadcast_ident timing number (held.address t) x) message.from (lies.least_broadcast number) in
+          subst (λ (x : ℕ). broadcast_ident timing number low x ≤ broadcast_ident timing number (held.address t) x) message.from
+          (lies.least_broadcast number) in
           let greatest : broadcast_ident timing number (held.address t) u ≤ broadcast_ident timing number high u =
-          subst (λ (x : ℕ). broadcast_ident timing number (held.address t) x ≤ broadcast_ident timing number high x) message.from (lies.greatest_broadcast number) in
-          (subst (λ (n : ℕ). broadcast_ident timing number low u ≤ n) (sym is) least, subst (λ (n : ℕ). n ≤ broadcast_ident timing number high u) (sym is) greatest)
+          subst (λ (x : ℕ). broadcast_ident timing number (held.address t) x ≤ broadcast_ident timing number high x) message.from
+          (lies.greatest_broadcast number) in (
+            subst (λ (n : ℕ). broadcast_ident timing number low u ≤ n) (sym is) least,
+            subst (λ (n : ℕ). n ≤ broadcast_ident timing number high u)
+                (sym is) greatest,
+          )
 
     announcing_known : (u m release p : ℕ) (ready : s.queued p ≤ s.start p) (one : IsBroadcastFrame timing s held b 60416 u m release p)
         → IsKnownHere s (Announcing u m) release p

@@ -29,7 +29,8 @@ use Rattle.j39_load.proofs.KeepingSources.{HasPace, of_announcements, of_packets
 use Rattle.j39_load.proofs.PlacedFrames.{all, announcing_read, asked, carrying_read, fewest, first_read, in_request, in_session, own, read, request_frames_read}
 use Rattle.j39_load.proofs.PlacedFrames.{session_read, traffic, unit_asks}
 use Rattle.j39_load.proofs.Milliseconds.{behind_bits, gaps_bits}
-use Rattle.j39_load.proofs.SharedIdentifiers.{AreAlike, IsGroupFrame, broadcast_made, firsts_alike, never_twin, no_broadcast, no_part, no_request, of_first, of_single}
+use Rattle.j39_load.proofs.SharedIdentifiers.{AreAlike, IsGroupFrame, broadcast_made, firsts_alike, never_twin, no_broadcast, no_part, no_request, of_first}
+use Rattle.j39_load.proofs.SharedIdentifiers.{of_single}
 use Rattle.j39_load.proofs.SharedIdentifiers.{one_or_alike, own_twin, part_made, request_made, same_twin, single_or_first}
 use Rattle.j39_load.proofs.StreamsBefore.{with_damage}
 use Rattle.j39_timing.specs.FrameStreams.{AreOfStreams, KeepsStream}
@@ -46,7 +47,8 @@ module _ (plan : Plan) (timing : Timing) (stays : UnitPlan → Bool) (states : D
   module _ (p : ℕ) (in_p : p < s.count) (is : planned p ≡ true) where
     pub of_source : IsKnown plan timing stays s (sent.source p) (sent.release p) p
     of_source =
-        known plan timing stays states s held keeps.held_by_plan keeps.held_apart sent.broadcasts keeps.broadcasts.messages (sent.source p) (sent.release p) p (queued_first p in_p)
+        known plan timing stays states s held keeps.held_by_plan keeps.held_apart sent.broadcasts keeps.broadcasts.messages (sent.source p) (sent.release p) p
+        (queued_first p in_p)
         (keeps.frames p in_p is)
 
     pub at_its_place : planned_at (all plan timing stays) (source_place plan (sent.source p)) ≡ of_source.frames
@@ -140,7 +142,8 @@ module _ (plan : Plan) (timing : Timing) (stays : UnitPlan → Bool) (states : D
         ]
 
     -- of what comes by its own pace
-    alike : (x : Source) → HasPace plan timing stays x → sent.source p ≡ x → source_place plan x ≡ source_place plan (sent.source q) → source_turn plan x ≡ source_turn plan (sent.source q)
+    alike : (x : Source) → HasPace plan timing stays x → sent.source p ≡ x → source_place plan x ≡ source_place plan (sent.source q)
+        → source_turn plan x ≡ source_turn plan (sent.source q)
         → (stream : Stream) → IsPacedBy plan timing stays x stream → IsSpaced stream → (sent.release p + stream.period ≤ sent.release q)
         ⊎ (sent.release q + stream.period ≤ sent.release p)
     alike x pace first place turn stream paced spaced =
@@ -149,7 +152,8 @@ module _ (plan : Plan) (timing : Timing) (stays : UnitPlan → Bool) (states : D
         (subst (λ (y : Source). IsFrameOf plan timing s held sent.broadcasts y (sent.release p) p) first frame_p) frame_q place turn in
         by_pace p q in_p in_q other is_p is_q (first ∙ one) stream (subst (λ (y : Source). IsPacedBy plan timing stays y stream) (sym first) paced) spaced
 
-    by_source : (x : Source) → sent.source p ≡ x → source_place plan x ≡ source_place plan (sent.source q) → source_turn plan x ≡ source_turn plan (sent.source q) → (stream : Stream)
+    by_source : (x : Source) → sent.source p ≡ x → source_place plan x ≡ source_place plan (sent.source q)
+        → source_turn plan x ≡ source_turn plan (sent.source q) → (stream : Stream)
         → IsPaced plan timing stays x stream → IsSpaced stream
         → (sent.release p + stream.period ≤ sent.release q) ⊎ (sent.release q + stream.period ≤ sent.release p)
     by_source (Single f) first place turn stream paced spaced = alike (Single f) tt first place turn stream paced spaced
@@ -158,18 +162,21 @@ module _ (plan : Plan) (timing : Timing) (stays : UnitPlan → Bool) (states : D
     by_source (Asking r) first place turn stream paced spaced = alike (Asking r) tt first place turn stream paced spaced
     by_source (Announcing u m) first place turn stream paced spaced =
         let one = subst (λ (x : Source). IsFrameOf plan timing s held sent.broadcasts x (sent.release p) p) first frame_p in
-        let (n, second) = of_announcements plan timing stays s held sent.broadcasts keeps.broadcasts.messages (sent.source q) u m (sent.release q) q frame_q one.known
+        let (n, second) = of_announcements plan timing stays s held sent.broadcasts keeps.broadcasts.messages (sent.source q) u m
+        (sent.release q) q frame_q one.known
         (sym place) in
         announced_apart u m n first second stream paced
     by_source (Carrying u m j) first place turn stream paced spaced =
         let one = subst (λ (x : Source). IsFrameOf plan timing s held sent.broadcasts x (sent.release p) p) first frame_p in
-        let (n, k, second) = of_packets plan timing stays s held sent.broadcasts keeps.broadcasts.messages (sent.source q) u m j (sent.release q) q frame_q one.0.known
+        let (n, k, second) = of_packets plan timing stays s held sent.broadcasts keeps.broadcasts.messages (sent.source q) u m j
+        (sent.release q) q frame_q one.0.known
         (sym place) in
         carried_apart u m n j k first second stream paced
 
   pub stated_stream : (p : ℕ) → p < s.count → planned p ≡ true
       → IsPaced plan timing stays (sent.source p) ((traffic plan timing stays).stream (source_place plan (sent.source p)))
-  stated_stream p in_p is = subst (λ (f : FlowFrames). IsPaced plan timing stays (sent.source p) f.stream) (sym (at_its_place p in_p is)) (of_source p in_p is).paced
+  stated_stream p in_p is = subst (λ (f : FlowFrames). IsPaced plan timing stays (sent.source p) f.stream) (sym (at_its_place p in_p is))
+      (of_source p in_p is).paced
 
   pub of_streams : AreOfStreams s (λ p. planned p ≡ true) (traffic plan timing stays).count (traffic plan timing stays).stream (origins_of plan sent)
   of_streams = record {
@@ -244,7 +251,8 @@ module _ (plan : Plan) (timing : Timing) (stays : UnitPlan → Bool) (states : D
 
   module _ (i : ℕ) (single : IsSingleFlow plan i) where
     -- no frame of a long message is of the flow, or of a twin
-    no_session : (f : ℕ) (part : Part) (release p : ℕ) → IsSessionFrame plan timing s held f part release p → may_share (traffic plan timing stays) i f ≡ true → ⊥
+    no_session : (f : ℕ) (part : Part) (release p : ℕ) → IsSessionFrame plan timing s held f part release p → may_share (traffic plan timing stays) i f ≡ true
+        → ⊥
     no_session f part release p one shares =
         elim (or_cases (eqb f i) (are_twins (planned_at (all plan timing stays) i) (planned_at (all plan timing stays) f)) shares) [
           | inl same ↦
@@ -264,9 +272,11 @@ module _ (plan : Plan) (timing : Timing) (stays : UnitPlan → Bool) (states : D
         ]
 
     -- and no request
-    no_asking : (r release p : ℕ) → IsFrameOf plan timing s held sent.broadcasts (Asking r) release p → may_share (traffic plan timing stays) i (source_place plan (Asking r)) ≡ true → ⊥
+    no_asking : (r release p : ℕ) → IsFrameOf plan timing s held sent.broadcasts (Asking r) release p → may_share (traffic plan timing stays) i
+        (source_place plan (Asking r)) ≡ true → ⊥
     no_asking r release p one shares =
-        elim (or_cases (eqb (source_place plan (Asking r)) i) (are_twins (planned_at (all plan timing stays) i) (planned_at (all plan timing stays) (source_place plan (Asking r)))) shares) [
+        elim (or_cases (eqb (source_place plan (Asking r)) i) (are_twins (planned_at (all plan timing stays) i)
+        (planned_at (all plan timing stays) (source_place plan (Asking r)))) shares) [
           | inl same ↦
               let place : source_place plan (Asking r) ≡ i = eqb-true (source_place plan (Asking r)) i same in
               let below = slice_get_within plan.flows.items i single.flow single.its in
@@ -275,7 +285,8 @@ module _ (plan : Plan) (timing : Timing) (stays : UnitPlan → Bool) (states : D
               let its = with_damage timing (frames_asked (asked_of timing plan stays)) (source_place plan (Asking r))
               (in_request plan timing stays r one.asked one.ms one.its one.paced)
               (request_frames_read plan timing stays r one.asked one.ms one.its one.paced) in
-              never_twin (planned_at (all plan timing stays) i) (planned_at (all plan timing stays) (source_place plan (Asking r))) (ap (λ (x : FlowFrames). x.twin_ident) its) twin
+              never_twin (planned_at (all plan timing stays) i) (planned_at (all plan timing stays) (source_place plan (Asking r)))
+              (ap (λ (x : FlowFrames). x.twin_ident) its) twin
         ]
 
     -- and no frame that stands behind the flows and has no twins
@@ -299,11 +310,14 @@ module _ (plan : Plan) (timing : Timing) (stays : UnitPlan → Bool) (states : D
     of_one_frame (First f) release p one shares = (f, inr refl)
     of_one_frame (InSession f part) release p one shares = absurd (no_session f part release p one shares)
     of_one_frame (Asking r) release p one shares = absurd (no_asking r release p one shares)
-    of_one_frame (Announcing u m) release p one shares = absurd (no_unit (unit_asks plan timing stays sent.broadcasts u m (keeps.broadcasts.messages u m one.known)).announcements
+    of_one_frame (Announcing u m) release p one shares = absurd (no_unit
+        (unit_asks plan timing stays sent.broadcasts u m (keeps.broadcasts.messages u m one.known)).announcements
         (source_place plan (Announcing u m)) (units_stated plan.flows.items plan.units.items + u)
         (announcing_read plan timing stays sent.broadcasts u m (keeps.broadcasts.messages u m one.known)) refl refl shares)
-    of_one_frame (Carrying u m k) release p one shares = absurd (no_unit (unit_asks plan timing stays sent.broadcasts u m (keeps.broadcasts.messages u m one.0.known)).packets
-        (source_place plan (Carrying u m k)) u (carrying_read plan timing stays sent.broadcasts u m (keeps.broadcasts.messages u m one.0.known) k) refl refl shares)
+    of_one_frame (Carrying u m k) release p one shares = absurd (no_unit
+        (unit_asks plan timing stays sent.broadcasts u m (keeps.broadcasts.messages u m one.0.known)).packets
+        (source_place plan (Carrying u m k)) u (carrying_read plan timing stays sent.broadcasts u m
+        (keeps.broadcasts.messages u m one.0.known) k) refl refl shares)
 
     -- what has the identifier of a message of one frame is one too
     no_other : {flow : FlowPlan} {group : GroupPlan} (f p q t other : ℕ) (second : Source)
@@ -328,7 +342,8 @@ module _ (plan : Plan) (timing : Timing) (stays : UnitPlan → Bool) (states : D
     abbrev Shares : ℕ → Type 0
     Shares j = may_share (traffic plan timing stays) i j ≡ true
 
-    alike_share : (j k : ℕ) (x y : FlowFrames) → planned_at (all plan timing stays) j ≡ x → planned_at (all plan timing stays) k ≡ y → AreAlike x y → Shares j → Shares k
+    alike_share : (j k : ℕ) (x y : FlowFrames) → planned_at (all plan timing stays) j ≡ x → planned_at (all plan timing stays) k ≡ y → AreAlike x y → Shares j
+        → Shares k
     alike_share j k x y at_j at_k are = twins_share i j k
         (subst (λ (z : FlowFrames). AreAlike z (planned_at (all plan timing stays) k)) (sym at_j) (subst (AreAlike x) (sym at_k) are))
 
@@ -336,21 +351,26 @@ module _ (plan : Plan) (timing : Timing) (stays : UnitPlan → Bool) (states : D
     swapped x y are = record { number = are.number; first = are.second; second = are.first; senders = sym are.senders; receivers = sym are.receivers }
 
     -- of a single frame, or the first of a longer one
-    by_kind : (other q : ℕ) (second : Source) → (g : ℕ) × ((second ≡ Single g) ⊎ (second ≡ First g)) → IsFrameOf plan timing s held sent.broadcasts second other q
+    by_kind : (other q : ℕ) (second : Source) → (g : ℕ) × ((second ≡ Single g) ⊎ (second ≡ First g))
+        → IsFrameOf plan timing s held sent.broadcasts second other q
         → ((g : ℕ) → IsSingleFrame plan timing s held g other q → Shares g)
         → ((g : ℕ) → IsFirstFrame plan timing s held g other q → Shares (source_place plan (First g))) → Shares (source_place plan second)
     by_kind other q second (g, either) two by_single by_first = elim either [
       | inl is ↦
-          subst (λ (x : Source). Shares (source_place plan x)) (sym is) (by_single g (subst (λ (x : Source). IsFrameOf plan timing s held sent.broadcasts x other q) is two))
+          subst (λ (x : Source). Shares (source_place plan x)) (sym is)
+          (by_single g (subst (λ (x : Source). IsFrameOf plan timing s held sent.broadcasts x other q) is two))
       | inr is ↦
-          subst (λ (x : Source). Shares (source_place plan x)) (sym is) (by_first g (subst (λ (x : Source). IsFrameOf plan timing s held sent.broadcasts x other q) is two))
+          subst (λ (x : Source). Shares (source_place plan x)) (sym is)
+          (by_first g (subst (λ (x : Source). IsFrameOf plan timing s held sent.broadcasts x other q) is two))
     ]
 
     -- such a single frame is of the flow or a twin too
-    shared_by : (f release p other q t : ℕ) (second : Source) → IsSingleFrame plan timing s held f release p → IsFrameOf plan timing s held sent.broadcasts second other q
+    shared_by : (f release p other q t : ℕ) (second : Source) → IsSingleFrame plan timing s held f release p
+        → IsFrameOf plan timing s held sent.broadcasts second other q
         → IsQueuedAt s p t → IsQueuedAt s q t → s.ident p ≡ s.ident q → Shares f → Shares (source_place plan second)
     shared_by f release p other q t second one two at_p at_q same shares =
-        by_kind other q second (no_other f p q t other second (of_single plan timing clean s held t (keeps.held_apart t) f release p one at_p) two at_q same) two
+        by_kind other q second (no_other f p q t other second (of_single plan timing clean s held t
+        (keeps.held_apart t) f release p one at_p) two at_q same) two
         by_single by_first
       where
         by_single : (g : ℕ) → IsSingleFrame plan timing s held g other q → Shares g
@@ -380,7 +400,8 @@ module _ (plan : Plan) (timing : Timing) (stays : UnitPlan → Bool) (states : D
         by_single g two =
             let frames = own plan timing stays g two.flow two.pace two.group two.its two.paced two.of in
             alike_share (source_place plan (First f)) g its frames (behind f release p one) (there g other q two)
-            (swapped frames its (single_or_first plan timing clean s held t (keeps.held_apart t) stays g f other release q p two one at_q at_p (sym same))) shares
+            (swapped frames its (single_or_first plan timing clean s held t (keeps.held_apart t) stays g f other release q p two one at_q at_p
+            (sym same))) shares
 
         is_stated : (v : Option Selector) → one.group.when ≡ v → (w : Selector) × (one.group.when ≡ Some w)
         is_stated (Some w) is = (w, is)
@@ -399,7 +420,8 @@ module _ (plan : Plan) (timing : Timing) (stays : UnitPlan → Bool) (states : D
         by_first : (g : ℕ) → IsFirstFrame plan timing s held g other q → Shares (source_place plan (First g))
         by_first g two =
             let (w, stated) = is_stated one.group.when refl in
-            alike_share (source_place plan (First f)) (source_place plan (First g)) its (own plan timing stays g two.flow two.pace two.group two.its two.paced two.of)
+            alike_share (source_place plan (First f)) (source_place plan (First g)) its
+            (own plan timing stays g two.flow two.pace two.group two.its two.paced two.of)
             (behind f release p one) (behind g other q two)
             (firsts_alike plan timing clean s held t (keeps.held_apart t) stays f g release other p q one two at_p at_q same w stated) shares
 
@@ -414,13 +436,15 @@ module _ (plan : Plan) (timing : Timing) (stays : UnitPlan → Bool) (states : D
             | inl source ↦ (
               is_q,
               shared_by f (sent.release p) p (sent.release q) q t (sent.source q)
-                  (subst (λ (x : Source). IsFrameOf plan timing s held sent.broadcasts x (sent.release p) p) source frame) (keeps.frames q in_q is_q) at_p at_q same
+                  (subst (λ (x : Source). IsFrameOf plan timing s held sent.broadcasts x (sent.release p) p) source frame)
+                  (keeps.frames q in_q is_q) at_p at_q same
                   (subst (λ (x : Source). Shares (source_place plan x)) source shares),
             )
             | inr source ↦ (
               is_q,
               first_shared_by f (sent.release p) p (sent.release q) q t (sent.source q)
-                  (subst (λ (x : Source). IsFrameOf plan timing s held sent.broadcasts x (sent.release p) p) source frame) (keeps.frames q in_q is_q) at_p at_q same
+                  (subst (λ (x : Source). IsFrameOf plan timing s held sent.broadcasts x (sent.release p) p) source frame)
+                  (keeps.frames q in_q is_q) at_p at_q same
                   (subst (λ (x : Source). Shares (source_place plan x)) source shares),
             )
           ]

@@ -254,19 +254,22 @@ module _ (plan : Plan) (timing : Timing) (apart : ArePlannedApart (units_of plan
     (frames : (p : ℕ) → p < s.count → IsFrameOf plan timing s (planned_held plan apart) no_broadcasts source (p * width) p) where
   room_for_period : pace.period * bits_per_ms timing.bitrate ≤ width
   room_for_period =
-      let parts : room_for plan timing flow pace ≡ pace.period * bits_per_ms timing.bitrate + first_period plan.requests.items flow * bits_per_ms timing.bitrate =
+      let parts : room_for plan timing flow pace
+      ≡ pace.period * bits_per_ms timing.bitrate + first_period plan.requests.items flow * bits_per_ms timing.bitrate =
       grind arith in
       omega (arith, parts, room)
 
   room_for_request : (g : ℕ) (answering : IsAnswering plan g) → f ≡ g → first_period plan.requests.items answering.flow * bits_per_ms timing.bitrate ≤ width
   room_for_request g answering same =
-      let parts : room_for plan timing flow pace ≡ pace.period * bits_per_ms timing.bitrate + first_period plan.requests.items flow * bits_per_ms timing.bitrate =
+      let parts : room_for plan timing flow pace
+      ≡ pace.period * bits_per_ms timing.bitrate + first_period plan.requests.items flow * bits_per_ms timing.bitrate =
       grind arith in
       subst (λ (x : FlowPlan). first_period plan.requests.items x * bits_per_ms timing.bitrate ≤ width)
       (same_Some _ _ (sym its ∙ (ap (slice_get plan.flows.items) same ∙ answering.its))) (omega (arith, parts, room))
 
   no_messages : KeepsBroadcasts plan timing s all_planned (of_one_source source width)
-  no_messages = none_sent plan timing s all_planned (of_one_source source width) (λ u. refl) (λ p u m same. to_one.0 u m same) (λ p u m k same. to_one.1 u m k same)
+  no_messages = none_sent plan timing s all_planned (of_one_source source width) (λ u. refl) (λ p u m same. to_one.0 u m same)
+      (λ p u m k same. to_one.1 u m k same)
 
   pub one_source_kept : KeepsToPlan plan timing s all_planned (of_one_source source width) (planned_held plan apart)
   one_source_kept = keeps_all plan timing apart s (of_one_source source width) frames

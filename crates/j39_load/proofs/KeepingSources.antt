@@ -34,7 +34,8 @@ module _ (plan : Plan) (timing : Timing) (stays : UnitPlan → Bool) where
 
   module _ (s : Schedule) (held : Held) (b : Broadcasts) (messages : (u m : ℕ) → m < b.count u → IsMessageToAll plan timing b u m) where
     -- a flow has short messages alone or long ones
-    short_or_long : (f release other p q : ℕ) (part : Part) → IsSingleFrame plan timing s held f release p → IsSessionFrame plan timing s held f part other q → ⊥
+    short_or_long : (f release other p q : ℕ) (part : Part) → IsSingleFrame plan timing s held f release p → IsSessionFrame plan timing s held f part other q
+        → ⊥
     short_or_long f release other p q part one two =
         let flow : one.flow ≡ two.flow = same_Some _ _ (sym one.its ∙ two.its) in
         let group : one.group ≡ two.group =
@@ -74,13 +75,16 @@ module _ (plan : Plan) (timing : Timing) (stays : UnitPlan → Bool) where
         (ap (λ (n : ℕ). turn_of_part n a) (sym first) ∙ (turn ∙ ap (λ (n : ℕ). turn_of_part n b) second))
 
     -- packets stand behind flows
-    pub of_packets : (a : Source) (u m k release p : ℕ) → IsFrameOf plan timing s held b a release p → m < b.count u → source_place plan a ≡ source_place plan (Carrying u m k)
+    pub of_packets : (a : Source) (u m k release p : ℕ) → IsFrameOf plan timing s held b a release p → m < b.count u → source_place plan a ≡ source_place plan
+        (Carrying u m k)
         → (n : ℕ) × (j : ℕ) × (a ≡ Carrying u n j)
     of_packets (Single f) u m k release p one below place = absurd (flow_first f one.flow 0 u one.its (place ∙ omega arith))
     of_packets (First f) u m k release p one below place = absurd (first_before f u release p one place)
     of_packets (InSession f part) u m k release p one below place = absurd (flow_first f one.flow 0 u one.its (place ∙ omega arith))
-    of_packets (Asking r) u m k release p one below place = absurd (let stated = unit_stated plan timing stays b u m (messages u m below) in omega (arith, place, stated))
-    of_packets (Announcing v n) u m k release p one below place = absurd (let stated = unit_stated plan timing stays b u m (messages u m below) in omega (arith, place, stated))
+    of_packets (Asking r) u m k release p one below place = absurd
+        (let stated = unit_stated plan timing stays b u m (messages u m below) in omega (arith, place, stated))
+    of_packets (Announcing v n) u m k release p one below place = absurd
+        (let stated = unit_stated plan timing stays b u m (messages u m below) in omega (arith, place, stated))
     of_packets (Carrying v n j) u m k release p one below place = (n, j, ap (λ (x : ℕ). Carrying x n j) (omega (arith, place)))
 
     -- and announcements behind them
@@ -91,7 +95,8 @@ module _ (plan : Plan) (timing : Timing) (stays : UnitPlan → Bool) where
     of_announcements (First f) u m release p one below place = absurd (first_before f (units_stated plan.flows.items units + u) release p one place)
     of_announcements (InSession f part) u m release p one below place =
         absurd (flow_first f one.flow (units_stated plan.flows.items units) u one.its (place ∙ omega arith))
-    of_announcements (Asking r) u m release p one below place = absurd (let stated = unit_stated plan timing stays b u m (messages u m below) in omega (arith, place, stated))
+    of_announcements (Asking r) u m release p one below place = absurd
+        (let stated = unit_stated plan timing stays b u m (messages u m below) in omega (arith, place, stated))
     of_announcements (Announcing v n) u m release p one below place = (n, ap (λ (x : ℕ). Announcing x n) (omega (arith, place)))
     of_announcements (Carrying v n j) u m release p one below place =
         absurd (let stated = unit_stated plan timing stays b v n (messages v n one.0.known) in omega (arith, place, stated))
@@ -114,11 +119,15 @@ module _ (plan : Plan) (timing : Timing) (stays : UnitPlan → Bool) where
     one_source (First f) (Single g) release other p q paced one two place turn = absurd (not_behind g f two.flow two.its (sym place))
     one_source (First f) (First g) release other p q paced one two place turn = ap First (omega (arith, place))
     one_source (First f) (InSession g part) release other p q paced one two place turn = absurd (not_behind g f two.flow two.its (sym place))
-    one_source (First f) (Asking r) release other p q paced one two place turn = absurd (first_before f (2 * units_stated plan.flows.items units + r) release p one place)
-    one_source (First f) (Announcing u m) release other p q paced one two place turn = absurd (never_announced (First f) u m release p (λ n is. cc) one two.known place)
-    one_source (First f) (Carrying u m k) release other p q paced one two place turn = absurd (never_packet (First f) u m k release p (λ n j is. cc) one two.0.known place)
+    one_source (First f) (Asking r) release other p q paced one two place turn = absurd
+        (first_before f (2 * units_stated plan.flows.items units + r) release p one place)
+    one_source (First f) (Announcing u m) release other p q paced one two place turn = absurd
+        (never_announced (First f) u m release p (λ n is. cc) one two.known place)
+    one_source (First f) (Carrying u m k) release other p q paced one two place turn = absurd
+        (never_packet (First f) u m k release p (λ n j is. cc) one two.0.known place)
     one_source (InSession f part) (First g) release other p q paced one two place turn = absurd (not_behind f g one.flow one.its place)
-    one_source (Asking r) (First g) release other p q paced one two place turn = absurd (first_before g (2 * units_stated plan.flows.items units + r) other q two (sym place))
+    one_source (Asking r) (First g) release other p q paced one two place turn = absurd
+        (first_before g (2 * units_stated plan.flows.items units + r) other q two (sym place))
     one_source (Single f) (Asking r) release other p q paced one two place turn = absurd (single_first f r release p one place)
     one_source (InSession f part) (Single g) release other p q paced one two place turn =
         absurd (short_or_long g other release q p part two (subst (λ (h : ℕ). IsSessionFrame plan timing s held h part release p) place one))
@@ -130,11 +139,15 @@ module _ (plan : Plan) (timing : Timing) (stays : UnitPlan → Bool) where
     one_source (Asking r) (Asking k) release other p q paced one two place turn = ap Asking (omega (arith, place))
     one_source (Announcing u m) y release other p q paced one two place turn = absurd paced
     one_source (Carrying u m k) y release other p q paced one two place turn = absurd paced
-    one_source (Single f) (Announcing u m) release other p q paced one two place turn = absurd (never_announced (Single f) u m release p (λ n is. cc) one two.known place)
-    one_source (Single f) (Carrying u m k) release other p q paced one two place turn = absurd (never_packet (Single f) u m k release p (λ n j is. cc) one two.0.known place)
+    one_source (Single f) (Announcing u m) release other p q paced one two place turn = absurd
+        (never_announced (Single f) u m release p (λ n is. cc) one two.known place)
+    one_source (Single f) (Carrying u m k) release other p q paced one two place turn = absurd
+        (never_packet (Single f) u m k release p (λ n j is. cc) one two.0.known place)
     one_source (InSession f part) (Announcing u m) release other p q paced one two place turn =
         absurd (never_announced (InSession f part) u m release p (λ n is. cc) one two.known place)
     one_source (InSession f part) (Carrying u m k) release other p q paced one two place turn =
         absurd (never_packet (InSession f part) u m k release p (λ n j is. cc) one two.0.known place)
-    one_source (Asking r) (Announcing u m) release other p q paced one two place turn = absurd (never_announced (Asking r) u m release p (λ n is. cc) one two.known place)
-    one_source (Asking r) (Carrying u m k) release other p q paced one two place turn = absurd (never_packet (Asking r) u m k release p (λ n j is. cc) one two.0.known place)
+    one_source (Asking r) (Announcing u m) release other p q paced one two place turn = absurd
+        (never_announced (Asking r) u m release p (λ n is. cc) one two.known place)
+    one_source (Asking r) (Carrying u m k) release other p q paced one two place turn = absurd
+        (never_packet (Asking r) u m k release p (λ n j is. cc) one two.0.known place)

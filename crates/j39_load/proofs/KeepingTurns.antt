@@ -26,7 +26,8 @@ use Rattle.j39_load.proofs.KnownFrames.{own_if_timed}
 use Rattle.j39_load.proofs.KeepingSources.{of_announcements, of_packets}
 use Rattle.j39_load.proofs.KeepingPlan.{premises_at}
 use Rattle.j39_load.proofs.PlacedFrames.{all, announcing_read, carrying_read, same_units, traffic, unit_asks}
-use Rattle.j39_load.proofs.SharedIdentifiers.{broadcast_made, broadcast_or_part, no_broadcast, of_first, of_single, one_sends, part_made, request_made, request_or_broadcast}
+use Rattle.j39_load.proofs.SharedIdentifiers.{broadcast_made, broadcast_or_part, no_broadcast, of_first, of_single, one_sends, part_made, request_made}
+use Rattle.j39_load.proofs.SharedIdentifiers.{request_or_broadcast}
 use Rattle.j39_load.proofs.StreamsBefore.{with_damage}
 use Rattle.j39_timing.specs.AnyOrder.{Controllers, IsLegalInAnyOrder}
 use Rattle.j39_timing.specs.TimedFrames.{Schedule, IsLegal}
@@ -88,17 +89,20 @@ module _ (plan : Plan) (timing : Timing) (stays : UnitPlan → Bool) (states : D
       → IsBroadcastFrame timing s held sent.broadcasts number u m release p → IsFrameOf plan timing s held sent.broadcasts y other q
       → IsQueuedAt s p t → IsQueuedAt s q t → s.ident p ≡ s.ident q → IsNumbered number u y
   shared number u m release p other q t (Single g) either one two at_p at_q same =
-      absurd (no_broadcast plan timing clean s held t (keeps.held_apart t) g q (of_single plan timing clean s held t (keeps.held_apart t) g other q two at_q) (s.ident p) number u either
+      absurd (no_broadcast plan timing clean s held t (keeps.held_apart t) g q (of_single plan timing clean s held t (keeps.held_apart t) g other q two at_q)
+      (s.ident p) number u either
       (broadcast_made plan timing clean s held t (keeps.held_apart t) sent.broadcasts number u m release p either one at_p) (sym same))
   shared number u m release p other q t (First g) either one two at_p at_q same =
-      absurd (no_broadcast plan timing clean s held t (keeps.held_apart t) g q (of_first plan timing clean s held t (keeps.held_apart t) g other q two at_q) (s.ident p) number u either
+      absurd (no_broadcast plan timing clean s held t (keeps.held_apart t) g q (of_first plan timing clean s held t (keeps.held_apart t) g other q two at_q)
+      (s.ident p) number u either
       (broadcast_made plan timing clean s held t (keeps.held_apart t) sent.broadcasts number u m release p either one at_p) (sym same))
   shared number u m release p other q t (InSession g part) either one two at_p at_q same =
       absurd (broadcast_or_part plan clean (held.named t) (held.address t) (keeps.held_apart t) (s.ident p) (s.ident q) u two.flow.sender two.receiver number
       (broadcast_made plan timing clean s held t (keeps.held_apart t) sent.broadcasts number u m release p either one at_p)
       (part_made plan timing clean s held t (keeps.held_apart t) g part other q two at_q) same)
   shared number u m release p other q t (Asking r) either one two at_p at_q same =
-      absurd (request_or_broadcast plan clean (held.named t) (held.address t) (keeps.held_apart t) (s.ident q) (s.ident p) two.asked.sender u number two.asked.to either
+      absurd (request_or_broadcast plan clean (held.named t) (held.address t) (keeps.held_apart t) (s.ident q)
+      (s.ident p) two.asked.sender u number two.asked.to either
       (request_made plan timing clean s held t (keeps.held_apart t) r other q two at_q)
       (broadcast_made plan timing clean s held t (keeps.held_apart t) sent.broadcasts number u m release p either one at_p) (sym same))
   shared number u m release p other q t (Announcing v w) either one two at_p at_q same =
@@ -129,9 +133,11 @@ module _ (plan : Plan) (timing : Timing) (stays : UnitPlan → Bool) (states : D
         let (m, is, one) = only p in_p is_p (at_place_of (source_place plan (sent.source p)) shares) in
         elim (cases_Bool (planned q)) [
           | inl is_q ↦
-              let place = there (sent.source q) (shared number u m (sent.release p) p (sent.release q) q t (sent.source q) either one (keeps.frames q in_q is_q) at_p at_q same) in
+              let place = there (sent.source q) (shared number u m (sent.release p) p (sent.release q) q t (sent.source q) either one
+              (keeps.frames q in_q is_q) at_p at_q same) in
               (is_q, or_left _ _ (eq-eqb (source_place plan (sent.source q)) i place))
-          | inr not_q ↦ absurd (keeps.others_identifier p q t in_p in_q seen is_p (own_if_timed (sent.source p) (numbered_timed number u (sent.source p) is)) not_q at_p at_q same)
+          | inr not_q ↦ absurd (keeps.others_identifier p q t in_p in_q seen is_p
+              (own_if_timed (sent.source p) (numbered_timed number u (sent.source p) is)) not_q at_p at_q same)
         ]
 
     behind : AreQueuedBehind s planned (origins_of plan sent) i
@@ -144,7 +150,8 @@ module _ (plan : Plan) (timing : Timing) (stays : UnitPlan → Bool) (states : D
     steady p q in_p in_q is_p is_q place_p place_q before waits =
         let (m, first, one) = only p in_p is_p place_p in
         let (n, second, two) = only q in_q is_q place_q in
-        let same = turns.steady p q u in_p in_q is_p is_q (numbered_by number u (sent.source p) first) (numbered_by number u (sent.source q) second) before waits in
+        let same = turns.steady p q u in_p in_q is_p is_q (numbered_by number u (sent.source p) first)
+        (numbered_by number u (sent.source q) second) before waits in
         let ready_p = queued_first p in_p in
         let ready_q = queued_first q in_q in
         ident_of number u (sent.source p) (sent.release p) p (s.queued p) first (keeps.frames p in_p is_p) (omega arith, ready_p)
@@ -228,7 +235,8 @@ module _ (plan : Plan) (timing : Timing) (stays : UnitPlan → Bool) (states : D
         let flows = length-map plan.flows.items (load_of_flow timing plan stays) in
         omega (arith, stated, flows)
 
-    pub packets_in_turn : ComeInTurn timing (frames_asked (asked_of timing plan stays)) s planned (origins_of plan sent) (packets_place (asked_of timing plan stays) u)
+    pub packets_in_turn : ComeInTurn timing (frames_asked (asked_of timing plan stays)) s planned (origins_of plan sent)
+        (packets_place (asked_of timing plan stays) u)
     packets_in_turn = subst (ComeInTurn timing (frames_asked (asked_of timing plan stays)) s planned (origins_of plan sent)) (sym at_packets)
         (in_turn 60160 u (source_place plan (Carrying u m 0)) packets_none packets_there packets_only (inr refl))
 
@@ -238,16 +246,20 @@ module _ (plan : Plan) (timing : Timing) (stays : UnitPlan → Bool) (states : D
         (in_turn 60416 u (source_place plan (Announcing u m)) announcements_none announcements_there announcements_only (inl refl))
 
     module _ (controllers : Controllers) (queues : KeepsQueues plan timing s controllers planned sent) where
-      pub packets_in_any_turn : ComeInAnyOrder timing (unplanned_end plan) (frames_asked (asked_of timing plan stays)) s controllers planned (origins_of plan sent)
+      pub packets_in_any_turn : ComeInAnyOrder timing (unplanned_end plan) (frames_asked (asked_of timing plan stays)) s controllers planned
+          (origins_of plan sent)
           (packets_place (asked_of timing plan stays) u)
       packets_in_any_turn =
-          subst (ComeInAnyOrder timing (unplanned_end plan) (frames_asked (asked_of timing plan stays)) s controllers planned (origins_of plan sent)) (sym at_packets)
+          subst (ComeInAnyOrder timing (unplanned_end plan) (frames_asked (asked_of timing plan stays)) s controllers planned (origins_of plan sent))
+          (sym at_packets)
           (in_any_turn 60160 u (source_place plan (Carrying u m 0)) packets_none packets_there packets_only (inr refl) controllers queues)
 
-      pub announcements_in_any_turn : ComeInAnyOrder timing (unplanned_end plan) (frames_asked (asked_of timing plan stays)) s controllers planned (origins_of plan sent)
+      pub announcements_in_any_turn : ComeInAnyOrder timing (unplanned_end plan) (frames_asked (asked_of timing plan stays)) s controllers planned
+          (origins_of plan sent)
           (announcements_place (asked_of timing plan stays) u)
       announcements_in_any_turn =
-          subst (ComeInAnyOrder timing (unplanned_end plan) (frames_asked (asked_of timing plan stays)) s controllers planned (origins_of plan sent)) (sym at_announcements)
+          subst (ComeInAnyOrder timing (unplanned_end plan) (frames_asked (asked_of timing plan stays)) s controllers planned (origins_of plan sent))
+          (sym at_announcements)
           (in_any_turn 60416 u (source_place plan (Announcing u m)) announcements_none announcements_there announcements_only (inl refl) controllers queues)
 
 -- ---- plans
@@ -268,7 +280,8 @@ pub broadcasts_in_any_order : (plan : Plan) (timing : Timing) (stays : UnitPlan 
     → KeepsTurns s planned sent held
     → ComeInAnyOrder timing (unplanned_end plan) (frames_asked (asked_of timing plan stays)) s controllers planned (origins_of plan sent)
     (announcements_place (asked_of timing plan stays) u)
-    × ComeInAnyOrder timing (unplanned_end plan) (frames_asked (asked_of timing plan stays)) s controllers planned (origins_of plan sent) (packets_place (asked_of timing plan stays) u)
+    × ComeInAnyOrder timing (unplanned_end plan) (frames_asked (asked_of timing plan stays)) s controllers planned (origins_of plan sent)
+    (packets_place (asked_of timing plan stays) u)
 broadcasts_in_any_order plan timing stays clean states s controllers planned sent held u m below legal keeps queues turns = (
   announcements_in_any_turn plan timing stays states clean s legal.queued_first planned sent held keeps turns u m below controllers queues,
   packets_in_any_turn plan timing stays states clean s legal.queued_first planned sent held keeps turns u m below controllers queues,

@@ -23,7 +23,8 @@ use Rattle.j39_load.specs.SentFrames.{Announcing, Carrying, FrameSources, Held, 
 use Rattle.j39_load.specs.SentFrames.{Single, TakesPart, goes_to}
 use Rattle.j39_load.proofs.KeepingApart.{few_ident}
 use Rattle.j39_load.proofs.AnswersGiven.{answers_given, first_period}
-use Rattle.j39_load.proofs.KeepingPlanned.{IsAskedSeldom, either_behind, places_behind, seldom_at, slots_kept, keeps_all, keeps_queues, no_broadcasts, none_sent, period_is, planned_address, planned_controllers}
+use Rattle.j39_load.proofs.KeepingPlanned.{IsAskedSeldom, either_behind, places_behind, seldom_at, slots_kept, keeps_all, keeps_queues, no_broadcasts}
+use Rattle.j39_load.proofs.KeepingPlanned.{none_sent, period_is, planned_address, planned_controllers}
 use Rattle.j39_load.proofs.KeepingPlanned.{planned_held, planned_single}
 use Rattle.j39_load.proofs.Milliseconds.{at_once, in_ms_behind}
 use Rattle.j39_load.proofs.Slots.{ends_before, slots}
@@ -69,7 +70,8 @@ module _ (plan : Plan) (timing : Timing) (apart : ArePlannedApart (units_of plan
   frame : (p : ℕ) (b : Bool) → bus.ident p ≡ cond b first_ident other_ident
       → IsFrameOf plan timing bus held no_broadcasts (cond b (Single f) (Single g)) (p * width) p
   frame p true is =
-      planned_single plan timing apart f flow pace group its paced of short bus (p * width) p (omega arith) (omega arith) (at_once timing pace.jitter (p * width)) is
+      planned_single plan timing apart f flow pace group its paced of short bus (p * width) p (omega arith) (omega arith)
+      (at_once timing pace.jitter (p * width)) is
   frame p false is =
       planned_single plan timing apart g other its_pace second other_is other_paced second_is also_short bus (p * width) p (omega arith) (omega arith)
       (at_once timing its_pace.jitter (p * width)) is
@@ -145,7 +147,8 @@ module _ (plan : Plan) (timing : Timing) (apart : ArePlannedApart (units_of plan
 
   pub can_be_kept_without : CanBeKeptWithout plan timing u f g first n
   can_be_kept_without = record {
-    bus = slots_kept plan timing apart width n (λ p. cond (first p) first_ident other_ident) (omega arith) sent (λ p. cond (first p) flow.sender other.sender) keeps queues;
+    bus = slots_kept plan timing apart width n (λ p. cond (first p) first_ident other_ident) (omega arith) sent
+        (λ p. cond (first p) flow.sender other.sender) keeps queues;
     frames = refl;
     of_flows = λ p. refl;
     unsent = λ p. unsent (first p);

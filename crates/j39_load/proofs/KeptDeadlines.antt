@@ -94,7 +94,8 @@ module _ (plan : Plan) (timing : Timing) (flow : FlowPlan) (count : ℕ) (of_flo
 
   far : (l m : ℕ) → Is l → Is m → (answers l).number < (answers m).number → wanted l + period ≤ wanted m + late
   far l m is_l is_m less =
-      let apart = moments_apart plan timing flow Is (λ a b. Unit {0}) (λ a. answered_within pace) wanted answers kept pace paced is_asked single l m is_l is_m less in
+      let apart = moments_apart plan timing flow Is (λ a b. Unit {0})
+      (λ a. answered_within pace) wanted answers kept pace paced is_asked single l m is_l is_m less in
       let soon = within_bits timing (answered_within pace) (answers l).moment (wanted l) (kept.in_time l is_l) in
       let first = kept.moment_first m is_m in
       omega (arith, apart, soon, first)
@@ -108,7 +109,8 @@ module _ (plan : Plan) (timing : Timing) (flow : FlowPlan) (count : ℕ) (of_flo
         | inr from ↦ elim (cases_lt (answers m).number (answers l).number) [
           | inl behind ↦ let apart = far m l (below, of_m) is_l behind in omega (arith, apart, order)
           | inr back ↦ absurd (
-              let same = numbers_differ plan timing flow Is (λ a b. Unit {0}) (λ a. answered_within pace) wanted answers kept pace paced is_asked single l m is_l
+              let same = numbers_differ plan timing flow Is (λ a b. Unit {0})
+              (λ a. answered_within pace) wanted answers kept pace paced is_asked single l m is_l
               (below, of_m) tt (omega (arith, from, back)) in
               omega (arith, same, less))
         ]
@@ -116,10 +118,12 @@ module _ (plan : Plan) (timing : Timing) (flow : FlowPlan) (count : ℕ) (of_flo
 
 -- ---- a message of a bus that keeps to a plan
 
-module _ (plan : Plan) (timing : Timing) (clean : Clean plan) (stays : UnitPlan → Bool) (delays : List (Option Delay)) (asks : AsksOfBus plan timing stays delays)
+module _ (plan : Plan) (timing : Timing) (clean : Clean plan) (stays : UnitPlan → Bool) (delays : List (Option Delay))
+    (asks : AsksOfBus plan timing stays delays)
     (s : Schedule) (controllers : Controllers) (planned : ℕ → Bool) (sent : FrameSources) (held : Held) (legal : IsLegalInAnyOrder s controllers)
     (keeps : KeepsToPlan plan timing s planned sent held) (queues : KeepsQueues plan timing s controllers planned sent)
-    (turns : KeepsTurns s planned sent held) (sends : AreSentWhole timing s planned sent) (takes : TakeTurns sent.broadcasts (whole_from timing s planned sent sends))
+    (turns : KeepsTurns s planned sent held) (sends : AreSentWhole timing s planned sent)
+    (takes : TakeTurns sent.broadcasts (whole_from timing s planned sent sends))
     (u m : ℕ) (below : m < sent.broadcasts.count u) where
   abbrev b : Broadcasts
   b = sent.broadcasts
@@ -195,7 +199,8 @@ module _ (plan : Plan) (timing : Timing) (clean : Clean plan) (stays : UnitPlan 
 
 -- ---- plans
 
-module _ (plan : Plan) (timing : Timing) (clean : Clean plan) (stays : UnitPlan → Bool) (delays : List (Option Delay)) (asks : AsksOfBus plan timing stays delays)
+module _ (plan : Plan) (timing : Timing) (clean : Clean plan) (stays : UnitPlan → Bool) (delays : List (Option Delay))
+    (asks : AsksOfBus plan timing stays delays)
     (none : load_findings timing (total_load timing (asked_of timing plan stays)) delays ≡ []) where
   each_in_time : AreEachInTime plan timing
   each_in_time s controllers planned sent held legal keeps queues turns sends takes u m flow pace limit below flow_is paced written seen =

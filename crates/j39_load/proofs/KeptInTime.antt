@@ -91,7 +91,8 @@ module _ (plan : Plan) (timing : Timing) (stays : UnitPlan → Bool) (delays : L
           let sum = stated.bound.sum in
           let limited = stated.limited in
           let shown = before_bits timing one.pace.period (sent.release p) s.now seen in
-          let ended = (in_time f stated.bits single stated.bound p in_p is (ap (source_place plan) source) (omega (arith, shown, limited, period, inside, sum))).1 in (
+          let ended = (in_time f stated.bits single stated.bound p in_p is (ap (source_place plan) source)
+          (omega (arith, shown, limited, period, inside, sum))).1 in (
             in_ms timing one.pace.period (sent.release p) (frame_end s p) (omega (arith, ended, sum, limited, period, inside)),
             λ deadline written.
                 let first = in_deadline timing one.pace.period one.pace.deadline deadline written in
@@ -109,7 +110,8 @@ module _ (plan : Plan) (timing : Timing) (stays : UnitPlan → Bool) (delays : L
 
 -- ---- plans
 
-module _ (plan : Plan) (timing : Timing) (clean : Clean plan) (stays : UnitPlan → Bool) (delays : List (Option Delay)) (asks : AsksOfBus plan timing stays delays)
+module _ (plan : Plan) (timing : Timing) (clean : Clean plan) (stays : UnitPlan → Bool) (delays : List (Option Delay))
+    (asks : AsksOfBus plan timing stays delays)
     (none : load_findings timing (total_load timing (asked_of timing plan stays)) delays ≡ []) where
   in_time : AreFramesInTime plan timing
   in_time = record {

@@ -79,7 +79,8 @@ sender_of (ToAll broadcast) = broadcast.sender
 
 -- ---- plans
 
-module _ (plan : Plan) (timing : Timing) (clean : Clean plan) (stays : UnitPlan → Bool) (delays : List (Option Delay)) (asks : AsksOfBus plan timing stays delays)
+module _ (plan : Plan) (timing : Timing) (clean : Clean plan) (stays : UnitPlan → Bool) (delays : List (Option Delay))
+    (asks : AsksOfBus plan timing stays delays)
     (none : load_findings timing (total_load timing (asked_of timing plan stays)) delays ≡ []) where
   abbrev asked : Asked
   asked = asked_of timing plan stays
@@ -101,8 +102,12 @@ module _ (plan : Plan) (timing : Timing) (clean : Clean plan) (stays : UnitPlan 
       (broadcast_for timing pace (askers_of plan.requests.items flow) (broadcast_of timing flow pace group)) at messages deadline in
       let same : is.load ≡ its_load = same_Some _ _ (same_Some _ _ (sym is.its ∙ at)) in
       let sender : is.broadcast.sender ≡ flow.sender = ap sender_of (sym is.long ∙ (ap (λ (l : FlowLoad). l.messages) same ∙ messages)) in
-      let (time, turn, total) = is.time in
-      (is.buffering, is.is, subst (HasPause timing asked is.buffering) sender (by_time timing asked is.buffering is.broadcast.sender is.broadcast whole bits time turn total is.stated))
+      let (time, turn, total) = is.time in (
+        is.buffering,
+        is.is,
+        subst (HasPause timing asked is.buffering) sender
+            (by_time timing asked is.buffering is.broadcast.sender is.broadcast whole bits time turn total is.stated),
+      )
 
   not_given_up : AreNotGivenUp plan timing
   not_given_up s controllers planned sent held legal keeps queues turns f flow pace group limit its paced of long goes written p q m k in_q is source gap seen =
@@ -121,7 +126,8 @@ module _ (plan : Plan) (timing : Timing) (clean : Clean plan) (stays : UnitPlan 
       let frames : pause.load.packets ≡ (unit_asks plan timing stays sent.broadcasts u m message).packets = same_Some _ _ (sym first ∙ there) in
       let single : (pause.load.packets.twin_ident ≡ None) × IsSpaced pause.load.packets.stream =
       (ap (λ (x : FlowFrames). x.twin_ident) frames, ap (λ (x : FlowFrames). askers_want x.stream) frames) in
-      let within = sent_in_any_order timing asked.unplanned_end (frames_asked asked) (all_paced timing plan stays) (all_sent timing plan stays) buffering is_buffering (packets_place asked u)
+      let within = sent_in_any_order timing asked.unplanned_end (frames_asked asked) (all_paced timing plan stays)
+      (all_sent timing plan stays) buffering is_buffering (packets_place asked u)
       pause.load.packets first pause.wait s controllers planned (origins_of plan sent) legal come single pause.is in
       let queued = within_bits timing timing.broadcast_gap_most (frame_end s p) (s.queued q) gap in
       let fewer = least_inside timing 750 in

@@ -100,7 +100,8 @@ first_open ends by (suc n) =
 
 -- ---- the messages of a unit, on a bus
 
-module _ (plan : Plan) (timing : Timing) (clean : Clean plan) (stays : UnitPlan → Bool) (delays : List (Option Delay)) (asks : AsksOfBus plan timing stays delays)
+module _ (plan : Plan) (timing : Timing) (clean : Clean plan) (stays : UnitPlan → Bool) (delays : List (Option Delay))
+    (asks : AsksOfBus plan timing stays delays)
     (s : Schedule) (controllers : Controllers) (planned : ℕ → Bool) (sent : FrameSources) (held : Held) (legal : IsLegalInAnyOrder s controllers)
     (keeps : KeepsToPlan plan timing s planned sent held) (queues : KeepsQueues plan timing s controllers planned sent)
     (turns : KeepsTurns s planned sent held) (sends : AreSentWhole timing s planned sent) (u : ℕ) where
@@ -185,7 +186,8 @@ module _ (plan : Plan) (timing : Timing) (clean : Clean plan) (stays : UnitPlan 
   abbrev message : ℕ → LongMessage
   message m = record { announcement = sends.announcement u m; packets = packets_from m 0 (b.packets u m) }
 
-  follow : (m k n p : ℕ) → m < count → k + n ≤ b.packets u m → (0 < n → s.queued (sends.packet u m k) ≤ frame_end s p + bits_at_most timing timing.broadcast_gap_most)
+  follow : (m k n p : ℕ) → m < count → k + n ≤ b.packets u m → (0 < n
+      → s.queued (sends.packet u m k) ≤ frame_end s p + bits_at_most timing timing.broadcast_gap_most)
       → FollowInTurn s (bits_at_most timing timing.broadcast_gap_most) p (packets_from m k n)
   unfolding packets_from FollowInTurn
   follow m k zero p below inside soon = tt
@@ -252,7 +254,8 @@ module _ (plan : Plan) (timing : Timing) (clean : Clean plan) (stays : UnitPlan 
         let come = (broadcasts_in_any_order plan timing stays clean asks.standing s controllers planned sent held u m below legal keeps queues turns).0 in
         let single : (has.load.announcements.twin_ident ≡ None) × IsSpaced has.load.announcements.stream =
         (ap (λ (l : UnitLoad). l.announcements.twin_ident) (asks_of m below), ap (λ (l : UnitLoad). askers_want l.announcements.stream) (asks_of m below)) in
-        sent_in_any_order timing asked.unplanned_end (frames_asked asked) (all_paced timing plan stays) (all_sent timing plan stays) buffering is_buffering (announcements_place asked u)
+        sent_in_any_order timing asked.unplanned_end (frames_asked asked) (all_paced timing plan stays) (all_sent timing plan stays) buffering is_buffering
+        (announcements_place asked u)
         has.load.announcements (announcements_read asked u has.load has.at) has.announced s controllers planned of legal come single has.first
 
     sent_rest : (m : ℕ) → m < count → AreSentWithin s planned of (packets_place asked u) has.load.packets.stream has.sent
@@ -260,7 +263,8 @@ module _ (plan : Plan) (timing : Timing) (clean : Clean plan) (stays : UnitPlan 
         let come = (broadcasts_in_any_order plan timing stays clean asks.standing s controllers planned sent held u m below legal keeps queues turns).1 in
         let single : (has.load.packets.twin_ident ≡ None) × IsSpaced has.load.packets.stream =
         (ap (λ (l : UnitLoad). l.packets.twin_ident) (asks_of m below), ap (λ (l : UnitLoad). askers_want l.packets.stream) (asks_of m below)) in
-        sent_in_any_order timing asked.unplanned_end (frames_asked asked) (all_paced timing plan stays) (all_sent timing plan stays) buffering is_buffering (packets_place asked u)
+        sent_in_any_order timing asked.unplanned_end (frames_asked asked) (all_paced timing plan stays) (all_sent timing plan stays) buffering is_buffering
+        (packets_place asked u)
         has.load.packets (packets_read asked u has.load has.at) has.sent s controllers planned of legal come single has.rest
 
     -- a message that is announced by some bit
@@ -271,12 +275,15 @@ module _ (plan : Plan) (timing : Timing) (clean : Clean plan) (stays : UnitPlan 
         let announced : s.queued (sends.announcement u m) ≡ b.announced u m = keeps.broadcasts.announced (sends.announcement u m) u m in_q is_q of_q in
         let queued : s.queued (sends.announcement u m) ≤ by = omega (arith, announced, soon) in
         let follows = follow m 0 (b.packets u m) (sends.announcement u m) below (omega arith)
-        (λ some. within_bits timing timing.broadcast_gap_most (frame_end s (sends.announcement u m)) (s.queued (sends.packet u m 0)) (sends.first_gap u m below)) in
-        let sum = sum_by-cons (λ (x : LongMessage). time_of_message first_time (bits_at_most timing timing.broadcast_gap_most) packet_bits (length x.packets)) (message m) [] in
+        (λ some. within_bits timing timing.broadcast_gap_most (frame_end s (sends.announcement u m)) (s.queued (sends.packet u m 0))
+        (sends.first_gap u m below)) in
+        let sum = sum_by-cons (λ (x : LongMessage). time_of_message first_time (bits_at_most timing timing.broadcast_gap_most) packet_bits (length x.packets))
+        (message m) [] in
         let counted = ap (time_of_message first_time (bits_at_most timing timing.broadcast_gap_most) packet_bits) (packets_count m 0 (b.packets u m)) in
         let size : time_of_messages first_time (bits_at_most timing timing.broadcast_gap_most) packet_bits (message m ∷ []) ≡ time m =
         omega (arith, sum, counted) in
-        let whole = messages_whole s planned of (announcements_place asked u) (packets_place asked u) (bits_at_most timing timing.broadcast_gap_most) has.announced
+        let whole = messages_whole s planned of (announcements_place asked u) (packets_place asked u)
+        (bits_at_most timing timing.broadcast_gap_most) has.announced
         has.sent has.load.announcements.stream has.load.packets.stream (sent_first m below) (sent_rest m below) (message m ∷ []) by (queued, follows, tt)
         (All-cons (IsBroadcast s planned of (announcements_place asked u) (packets_place asked u)) (message m) [] (is_broadcast m below)
         (λ j d least. absurd (omega (arith, least))))
@@ -343,7 +350,8 @@ module _ (plan : Plan) (timing : Timing) (clean : Clean plan) (stays : UnitPlan 
         let summed = value_sum (broadcasts_by u asked.flows) in
         let asks_it = asks_of m below in
         let flows : has.load.flows ≡ length (broadcasts_by u asked.flows) = ap (λ (l : UnitLoad). l.flows) asks_it in
-        let packets : has.load.all_packets ≡ sum_by (λ (x : Broadcast). x.packets) (broadcasts_by u asked.flows) = ap (λ (l : UnitLoad). l.all_packets) asks_it in
+        let packets : has.load.all_packets ≡ sum_by (λ (x : Broadcast). x.packets) (broadcasts_by u asked.flows) = ap
+        (λ (l : UnitLoad). l.all_packets) asks_it in
         let its : turn_time timing has.load has.announced has.sent ≡ turn.time = ap (λ (t : Turn). t.time) has.is in
         let same : turn_time timing has.load has.announced has.sent ≡ sum_by value (broadcasts_by u asked.flows) =
         ap (λ (n : ℕ). n * first_time + has.load.all_packets * packet_time timing has.load has.sent) flows
@@ -394,7 +402,8 @@ module _ (plan : Plan) (timing : Timing) (clean : Clean plan) (stays : UnitPlan 
           of_open =
               let far : j + (m - j) ≡ m = omega (arith, inside) in
               let most = turn_most j (m - j) m far below other_flows in
-              let chained = chain_ends j (m - j) by (omega (arith, far, below)) soon (λ i from up. next i from (omega (arith, up, far))) (omega (arith, most, seen)) in
+              let chained = chain_ends j (m - j) by (omega (arith, far, below)) soon (λ i from up. next i from (omega (arith, up, far)))
+              (omega (arith, most, seen)) in
               let same : ends (j + (m - j)) ≡ ends m = ap ends far in
               omega (arith, chained, most, same)
 

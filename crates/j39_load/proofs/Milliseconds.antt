@@ -37,7 +37,8 @@ least_apart : (bitrate : Bitrate) (f s ms a b : ℕ) → a * bit_time bitrate * 
     → a + ms * bits_per_ms bitrate * s / f ≤ b
 least_apart bitrate f s ms a b behind = elim (cases_lt b (a + ms * bits_per_ms bitrate * s / f)) [
   | inr from ↦ from
-  | inl less ↦ absurd (over bitrate f s ms a b (ms * bits_per_ms bitrate * s / f) (div-mul-le_self (ms * bits_per_ms bitrate * s) f) (mul-le-mul_right f less) behind)
+  | inl less ↦ absurd (over bitrate f s ms a b (ms * bits_per_ms bitrate * s / f) (div-mul-le_self (ms * bits_per_ms bitrate * s) f)
+      (mul-le-mul_right f less) behind)
 ]
 
 pub behind_bits : (timing : Timing) (ms a b : ℕ) → IsMsBehind timing ms a b → a + bits_at_least timing ms ≤ b
@@ -140,11 +141,14 @@ within_both timing ms more a b within =
     let all = within_bits timing (ms + more) a b within in
     let (first, _) = div_ceil_times (ms * bits_per_ms timing.bitrate * longest_million timing) (shortest_million timing) (some_slow timing) in
     let (second, _) = div_ceil_times (more * bits_per_ms timing.bitrate * longest_million timing) (shortest_million timing) (some_slow timing) in
-    let left : (ms + more) * bits_per_ms timing.bitrate * longest_million timing ≡ ms * bits_per_ms timing.bitrate * longest_million timing + more * bits_per_ms timing.bitrate * longest_million timing =
+    let left : (ms + more) * bits_per_ms timing.bitrate * longest_million timing
+    ≡ ms * bits_per_ms timing.bitrate * longest_million timing + more * bits_per_ms timing.bitrate * longest_million timing =
     grind arith in
-    let right : (bits_at_most timing ms + bits_at_most timing more) * shortest_million timing ≡ bits_at_most timing ms * shortest_million timing + bits_at_most timing more * shortest_million timing =
+    let right : (bits_at_most timing ms + bits_at_most timing more) * shortest_million timing
+    ≡ bits_at_most timing ms * shortest_million timing + bits_at_most timing more * shortest_million timing =
     grind arith in
-    let both = suffices ((ms + more) * bits_per_ms timing.bitrate * longest_million timing) (shortest_million timing) (bits_at_most timing ms + bits_at_most timing more)
+    let both = suffices ((ms + more) * bits_per_ms timing.bitrate * longest_million timing) (shortest_million timing)
+    (bits_at_most timing ms + bits_at_most timing more)
     (omega (arith, first, second, left, right)) (some_slow timing) in
     omega (arith, all, both)
 
@@ -160,7 +164,8 @@ pub some_bits : (timing : Timing) (ms : ℕ) → 1 ≤ ms → 0 < bits_at_least 
 some_bits timing ms some =
     let few = timing.drift_range in
     greatest (ms * bits_per_ms timing.bitrate * shortest_million timing) (longest_million timing) 1
-    (one_ms timing.bitrate (longest_million timing) (shortest_million timing) ms (mul-le-mul_right (shortest_million timing) some) (omega (arith, few))) (some_fast timing)
+    (one_ms timing.bitrate (longest_million timing) (shortest_million timing) ms (mul-le-mul_right (shortest_million timing) some) (omega (arith, few)))
+    (some_fast timing)
 
 -- ---- what the bus's own milliseconds suffice for
 
@@ -172,7 +177,8 @@ behind_own Kbit500 f s ms a b times less some = omega (arith, times, less, some)
 behind_own Mbit1 f s ms a b times less some = omega (arith, times, less, some)
 
 pub in_ms_behind : (timing : Timing) (ms a b : ℕ) → a + bits_of_ms timing ms ≤ b → IsMsBehind timing ms a b
-in_ms_behind timing ms a b behind = behind_own timing.bitrate (longest_million timing) (shortest_million timing) ms a b (mul-le-mul_right (longest_million timing) behind)
+in_ms_behind timing ms a b behind = behind_own timing.bitrate (longest_million timing) (shortest_million timing) ms a b
+    (mul-le-mul_right (longest_million timing) behind)
     (mul-le-mul_left ms (let one = slower timing in let other = faster timing in omega (arith, one, other))) (some_fast timing)
 
 within_own : (bitrate : Bitrate) (f s ms a b : ℕ) → b * s ≤ (a + ms * bits_per_ms bitrate) * s → ms * s ≤ ms * f → 0 < s
@@ -183,7 +189,8 @@ within_own Kbit500 f s ms a b times less some = omega (arith, times, less, some)
 within_own Mbit1 f s ms a b times less some = omega (arith, times, less, some)
 
 pub in_unit_ms : (timing : Timing) (ms a b : ℕ) → b ≤ a + bits_of_ms timing ms → IsWithinUnitMs timing ms a b
-in_unit_ms timing ms a b within = within_own timing.bitrate (longest_million timing) (shortest_million timing) ms a b (mul-le-mul_right (shortest_million timing) within)
+in_unit_ms timing ms a b within = within_own timing.bitrate (longest_million timing) (shortest_million timing) ms a b
+    (mul-le-mul_right (shortest_million timing) within)
     (mul-le-mul_left ms (let one = slower timing in let other = faster timing in omega (arith, one, other))) (some_slow timing)
 
 -- what comes at once
@@ -226,11 +233,13 @@ some_time Kbit250 f some = omega (arith, some)
 some_time Kbit500 f some = omega (arith, some)
 some_time Mbit1 f some = omega (arith, some)
 
-pub window_apart : (timing : Timing) (ms a b : ℕ) → a * bit_time timing.bitrate * longest_million timing + 1000 * ms * million ≤ b * bit_time timing.bitrate * longest_million timing
+pub window_apart : (timing : Timing) (ms a b : ℕ) → a * bit_time timing.bitrate * longest_million timing + 1000 * ms * million
+    ≤ b * bit_time timing.bitrate * longest_million timing
     → a + bits_inside timing ms ≤ b
 window_apart timing ms a b behind =
     let one = some_time timing.bitrate (longest_million timing) (some_fast timing) in
-    let next : (b + 1) * bit_time timing.bitrate * longest_million timing ≡ b * bit_time timing.bitrate * longest_million timing + bit_time timing.bitrate * longest_million timing = grind arith in
+    let next : (b + 1) * bit_time timing.bitrate * longest_million timing
+    ≡ b * bit_time timing.bitrate * longest_million timing + bit_time timing.bitrate * longest_million timing = grind arith in
     least_apart timing.bitrate (longest_million timing) million ms a b (omega (arith, behind, one, next))
 
 -- ---- true time
@@ -261,13 +270,15 @@ pub agreed_least : (timing : Timing) (ms : ℕ) → timing.drift ≡ 0 → bits_
 agreed_least timing ms none =
     let slow : shortest_million timing ≡ million = omega (arith, none) in
     let fast : longest_million timing ≡ million = omega (arith, none) in
-    ap (λ (n : ℕ). ms * bits_per_ms timing.bitrate * n / longest_million timing) slow ∙ exact (bits_of_ms timing ms) (longest_million timing) million fast (omega arith)
+    ap (λ (n : ℕ). ms * bits_per_ms timing.bitrate * n / longest_million timing) slow ∙ exact (bits_of_ms timing ms) (longest_million timing) million fast
+    (omega arith)
 
 pub agreed_most : (timing : Timing) (ms : ℕ) → timing.drift ≡ 0 → bits_at_most timing ms ≡ bits_of_ms timing ms
 agreed_most timing ms none =
     let slow : shortest_million timing ≡ million = omega (arith, none) in
     let fast : longest_million timing ≡ million = omega (arith, none) in
-    ap (λ (n : ℕ). div_ceil (ms * bits_per_ms timing.bitrate * longest_million timing) n) slow ∙ exact_up (bits_of_ms timing ms) (longest_million timing) million fast (omega arith)
+    ap (λ (n : ℕ). div_ceil (ms * bits_per_ms timing.bitrate * longest_million timing) n) slow ∙ exact_up (bits_of_ms timing ms)
+    (longest_million timing) million fast (omega arith)
 
 pub agreed_inside : (timing : Timing) (ms : ℕ) → timing.drift ≡ 0 → bits_inside timing ms ≡ bits_of_ms timing ms
 agreed_inside timing ms none =
@@ -304,7 +315,8 @@ agreed_rate x y f s m fast slow some positive = ap (λ (n : ℕ). div_ceil (x * 
         omega (arith, one, other)
 
 pub agreed_second : (timing : Timing) (bits ms : ℕ) → timing.drift ≡ 0 → 1 ≤ ms → bits_a_second timing bits ms ≡ div_ceil (1000 * bits) ms
-agreed_second timing bits ms none some = agreed_rate (1000 * bits) ms (longest_million timing) (shortest_million timing) million (omega (arith, none)) (omega (arith, none))
+agreed_second timing bits ms none some = agreed_rate (1000 * bits) ms (longest_million timing) (shortest_million timing) million (omega (arith, none))
+    (omega (arith, none))
     (omega arith) some
 
 -- ---- few
@@ -320,7 +332,8 @@ few_at_least timing ms = elim (cases_lt (1000 * ms) (bits_at_least timing ms)) [
   | inr from ↦ from
   | inl more ↦ absurd (
       let low = div-mul-le_self (bits_of_ms timing ms * shortest_million timing) (longest_million timing) in
-      let times : suc (1000 * ms) * longest_million timing ≤ bits_at_least timing ms * longest_million timing = mul-le-mul_right (longest_million timing) more in
+      let times : suc (1000 * ms) * longest_million timing ≤ bits_at_least timing ms * longest_million timing = mul-le-mul_right
+      (longest_million timing) more in
       let less : bits_of_ms timing ms * shortest_million timing ≤ bits_of_ms timing ms * longest_million timing =
       mul-le-mul_left (bits_of_ms timing ms) (let one = slower timing in let other = faster timing in omega (arith, one, other)) in
       let few : bits_of_ms timing ms * longest_million timing ≤ 1000 * ms * longest_million timing =

@@ -354,11 +354,14 @@ module _ (timing : Timing) (ends : ℕ) (all : List (Option FlowFrames)) where
       → IsQueueGroupWait timing ends (leasts_of all) all own other → wait ≡ other
   one_queue_group_wait own wait other is another =
       let same = one_level (with_unplanned timing ends own) is.level another.level is.of_queue_group another.of_queue_group in
-      one_wait timing (demands_of all) (streams_with timing (leasts_of all) all (with_unplanned timing ends own) another.level) (blocking_with timing own) wait other
-      (subst (λ (n : ℕ). IsWaitWith timing (demands_of all) (streams_with timing (leasts_of all) all (with_unplanned timing ends own) n) (blocking_with timing own) wait) same
+      one_wait timing (demands_of all) (streams_with timing (leasts_of all) all (with_unplanned timing ends own) another.level)
+      (blocking_with timing own) wait other
+      (subst (λ (n : ℕ). IsWaitWith timing (demands_of all) (streams_with timing (leasts_of all) all (with_unplanned timing ends own) n)
+      (blocking_with timing own) wait) same
       is.least_wait) another.least_wait
 
-  one_buffering_delay : (frames : Option FlowFrames) (wait other : Option ℕ) → IsBufferedFor timing ends all frames wait → IsBufferedFor timing ends all frames other
+  one_buffering_delay : (frames : Option FlowFrames) (wait other : Option ℕ) → IsBufferedFor timing ends all frames wait
+      → IsBufferedFor timing ends all frames other
       → wait ≡ other
   one_buffering_delay None wait other is another = is ∙ sym another
   one_buffering_delay (Some f) wait other is another = go (keep_order f) is another

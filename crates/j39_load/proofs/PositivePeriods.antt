@@ -81,7 +81,8 @@ of_flow timing plan stays flow pace group = by (is_always_short group) (has_shor
       messages = if short then Short single else long_messages timing plan.units.items stays flow pace group flow.to;
       singles = if not short && has then Some single else None;
       limit = time_limit timing pace;
-      bits_per_second = load_of_messages timing (if short then Short single else long_messages timing plan.units.items stays flow pace group flow.to) pace.period;
+      bits_per_second = load_of_messages timing (if short then Short single
+          else long_messages timing plan.units.items stays flow pace group flow.to) pace.period;
     }))
     by true has = record { messages = (pos, refl, fewer); singles = tt }
     by false true = record { messages = long flow.to; singles = pos }
@@ -263,7 +264,8 @@ damage_paced : (timing : Timing) (errors : Option ErrorRate) → timing.errors �
 damage_paced timing None is = rw (is) (λ k d below. absurd (omega arith))
 damage_paced timing (Some rate) is =
     let one : 0 < bits_inside timing rate.every = some_inside timing rate.every rate.every_positive in
-    rw (is) (All-cons HasPeriod (first_of_all (damage_stream timing rate (longest_frame frame_bytes))) (first_of_all (damage_stream timing rate error_frame) ∷ []) one
+    rw (is) (All-cons HasPeriod (first_of_all (damage_stream timing rate (longest_frame frame_bytes)))
+    (first_of_all (damage_stream timing rate error_frame) ∷ []) one
     (All-cons HasPeriod (first_of_all (damage_stream timing rate error_frame)) [] one (λ k d below. absurd (omega arith))))
 
 pub all_paced : (timing : Timing) (plan : Plan) (stays : UnitPlan → Bool)

@@ -108,7 +108,8 @@ module _ (m : ℕ → Bool) where
       → ((u : ℕ) → (option_map_or (λ (v : ℕ). eqb v u) a false || option_map_or (λ (v : ℕ). eqb v u) b false) ≡ true → m u ≡ true)
       → (option_map_or m a false || option_map_or m b false) ≡ true
   some_end None None kept all = absurd (true≢false kept)
-  some_end (Some v) b kept all = or_left (m v) (option_map_or m b false) (all v (or_left (eqb v v) (option_map_or (λ (w : ℕ). eqb w v) b false) (eq-eqb v v refl)))
+  some_end (Some v) b kept all = or_left (m v) (option_map_or m b false)
+      (all v (or_left (eqb v v) (option_map_or (λ (w : ℕ). eqb w v) b false) (eq-eqb v v refl)))
   some_end None (Some v) kept all = or_right false (m v) (all v (or_right false (eqb v v) (eq-eqb v v refl)))
 
 -- where frames are of a unit there are some
@@ -246,7 +247,8 @@ module _ (timing : Timing) (ends : ℕ) (asked : List (Option FlowFrames)) (pace
           go (get_or asked (of.source p) None) refl last
         where
           go : (o : Option FlowFrames) → get_or asked (of.source p) None ≡ o → s.ident p ≤ (planned_at asked (of.source p)).last_ident → s.ident p ≤ level
-          go None at last = absurd (false≢true (subst (λ (o : Option FlowFrames). is_of_queue_group leasts own_too level (unwrap_or o no_frames) ≡ true) at has))
+          go None at last = absurd (false≢true (subst (λ (o : Option FlowFrames). is_of_queue_group leasts own_too level (unwrap_or o no_frames)
+              ≡ true) at has))
           go (Some x) at last =
               let here = read asked (of.source p) x at in
               let most = at_level (of.source p) x at (subst (λ (f : FlowFrames). is_of_queue_group leasts own_too level f ≡ true) here has) in
@@ -284,7 +286,8 @@ module _ (timing : Timing) (ends : ℕ) (asked : List (Option FlowFrames)) (pace
           (known.queue_groups j waits.level goes (subst (λ (f : FlowFrames). keep_order f ≡ false) (sym here) kept)
           (subst (λ (f : FlowFrames). IsQueueGroupLevel leasts asked (with_unplanned timing ends f) waits.level) (sym here) waits.of_queue_group))
 
-      its_traffic : IsTrafficOfQueueGroup s controllers (traffic_of all) timing.unplanned (longest_frame 8) planned of (queue_group_of timing ends asked own waits.level)
+      its_traffic : IsTrafficOfQueueGroup s controllers (traffic_of all) timing.unplanned (longest_frame 8) planned of
+          (queue_group_of timing ends asked own waits.level)
       its_traffic = queue_group_known own waits.level waits.of_queue_group s controllers planned of i known keeps
 
       member : (queue_group_of timing ends asked own waits.level).has j ≡ true
@@ -303,12 +306,14 @@ module _ (timing : Timing) (ends : ℕ) (asked : List (Option FlowFrames)) (pace
 
       pub any_in_time : IsStreamInTime s planned of j own.stream wait
       any_in_time = subst (λ (f : FlowFrames). IsStreamInTime s planned of j f.stream wait) there
-          (queue_group_in_time s controllers (traffic_of all) timing.unplanned (longest_frame 8) planned of (queue_group_of timing ends asked own waits.level) legal
+          (queue_group_in_time s controllers (traffic_of all) timing.unplanned (longest_frame 8) planned of
+          (queue_group_of timing ends asked own waits.level) legal
           its_traffic positive j wait member small (queue_group_fits timing ends asked own waits.level wait j there waits.least_wait.1))
 
       pub any_sent : AreSentWithin s planned of j own.stream wait
       any_sent = subst (λ (f : FlowFrames). AreSentWithin s planned of j f.stream wait) there
-          (queue_group_sent s controllers (traffic_of all) timing.unplanned (longest_frame 8) planned of (queue_group_of timing ends asked own waits.level) legal
+          (queue_group_sent s controllers (traffic_of all) timing.unplanned (longest_frame 8) planned of
+          (queue_group_of timing ends asked own waits.level) legal
           its_traffic positive j wait member small (queue_group_fits timing ends asked own waits.level wait j there waits.least_wait.1))
 
   -- the wait that is reported of such frames

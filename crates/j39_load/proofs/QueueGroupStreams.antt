@@ -43,10 +43,11 @@ module _ (timing : Timing) (ends : ℕ) (asked : List (Option FlowFrames)) (own 
   taken j = cond (has j || ltb ((traffic_of all).least j) level) (lesser_share demands span ((traffic_of all).stream j)) 0
 
   taken_most : (j : ℕ) (frames : Option FlowFrames) → get_or all j None ≡ frames → taken j ≤ sum_by (lesser_share demands span) (report j frames)
-  taken_most j None is = rw (is) (elim (has j || ltb 0 level) as (λ e. cond e (lesser_share demands span no_frames.stream) 0 ≤ sum_by (lesser_share demands span) []) [
-    | true ↦ omega arith
-    | false ↦ omega arith
-  ])
+  taken_most j None is = rw (is) (elim (has j || ltb 0 level) as (λ e. cond e (lesser_share demands span no_frames.stream) 0 ≤ sum_by
+      (lesser_share demands span) []) [
+        | true ↦ omega arith
+        | false ↦ omega arith
+      ])
   taken_most j (Some x) is = rw (is) (elim (has j || ltb x.least_ident level)
       as (λ e. cond e (lesser_share demands span x.stream) 0 ≤ sum_by (lesser_share demands span) (if e then x.stream ∷ [] else [])) [
         | true ↦ rw (sum_by-cons (lesser_share demands span) x.stream []) (omega arith)
@@ -82,7 +83,8 @@ module _ (timing : Timing) (ends : ℕ) (asked : List (Option FlowFrames)) (own 
   damage_most place (stream ∷ streams) =
       let first : sum_by (lesser_share demands span) (report place (first_of_all stream)) ≤ lesser_share demands span stream = go (has place || ltb 0 level) in
       let rest = damage_most (place + 1) streams in
-      let parts = sum_by-append (lesser_share demands span) (report place (first_of_all stream)) (lines_of_each report (place + 1) (map first_of_all streams)) in
+      let parts = sum_by-append (lesser_share demands span) (report place (first_of_all stream))
+      (lines_of_each report (place + 1) (map first_of_all streams)) in
       let one = sum_by-cons (lesser_share demands span) stream streams in
       omega (arith, first, rest, parts, one)
     where
@@ -109,7 +111,8 @@ queue_group_fits timing ends asked own level wait i read enough =
     let most = queue_group_taken timing ends asked own level (wait + 1) in
     let needed : need (demands_of (asked ++ damage_frames timing)) (blocking_with timing own)
     (streams_with timing (leasts_of asked) asked (with_unplanned timing ends own) level) wait ≤ wait =
-    subst (λ (ds : List Demand). need ds (blocking_with timing own) (streams_with timing (leasts_of asked) asked (with_unplanned timing ends own) level) wait ≤ wait)
+    subst (λ (ds : List Demand). need ds (blocking_with timing own) (streams_with timing (leasts_of asked) asked (with_unplanned timing ends own) level) wait
+    ≤ wait)
     (sym (demands_with_damage timing asked)) enough in
     subst (λ (x : FlowFrames). longest_frame 8 * (1 + timing.unplanned)
     + total (length (asked ++ damage_frames timing)) (taken timing ends asked own level (wait + 1)) ≤ wait + x.stream.bits) (sym read)

@@ -72,7 +72,8 @@ module _ (plan : Plan) (stays : UnitPlan → Bool) (states : DecidesWhoStays pla
       let name : is_arbitrary (unit_at (units_of plan) u).name ≡ is_arbitrary unit.name = ap (λ (c : PlannedUnit). is_arbitrary c.name) its in
       rw (at) (elim (by_plan u below) [
         | inl planned ↦ planned_between unit (held u) (planned ∙ preferred)
-        | inr moved ↦ pool_between unit (held u) (moves_where_stated unit (StaysBeside plan.strangers (units_of plan) u) (states u unit at) (sym name ∙ moved.1) moved.2) moved.0
+        | inr moved ↦ pool_between unit (held u) (moves_where_stated unit (StaysBeside plan.strangers (units_of plan) u) (states u unit at)
+            (sym name ∙ moved.1) moved.2) moved.0
       ])
 
   destination_between : (to : To) → ((v : ℕ) → to ≡ One v → v < length units)
@@ -98,8 +99,10 @@ module _ (plan : Plan) (stays : UnitPlan → Bool) (states : DecidesWhoStays pla
   module _ (flow : FlowPlan) (known : AreUnitsPlanned plan flow) where
     -- to all
     broadcast_between : (priority pgn : ℕ)
-        → (identifier_of priority pgn global_address (of_unit units (least_address stays) flow.sender) ≤ identifier_of priority pgn global_address (held flow.sender))
-        × (identifier_of priority pgn global_address (held flow.sender) ≤ identifier_of priority pgn global_address (of_unit units (greatest_address stays) flow.sender))
+        → (identifier_of priority pgn global_address (of_unit units (least_address stays) flow.sender) ≤ identifier_of priority pgn global_address
+        (held flow.sender))
+        × (identifier_of priority pgn global_address (held flow.sender) ≤ identifier_of priority pgn global_address
+        (of_unit units (greatest_address stays) flow.sender))
     broadcast_between priority pgn =
         let source = unit_between flow.sender known.sender in (
           identifier-mono priority pgn global_address global_address _ _ (omega arith) source.0,

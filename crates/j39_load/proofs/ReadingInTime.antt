@@ -101,11 +101,13 @@ module _ (plan : Plan) (clean : Clean plan) (g : ℕ) (group : GroupPlan) (at : 
     read_as_written = record {
       given = λ earlier later x split alone value.
           in_bytes (λ b s. IsRawOf s value x.raw → state_of s (raw_of b s) ≡ Value value) x.place
-          (subst (λ (ws : List Write). HoldsAt (λ s. IsRawOf s value x.raw → state_of s (raw_of (last_payload w.start ws) s) ≡ Value value) signals x.place) (sym split)
+          (subst (λ (ws : List Write). HoldsAt (λ s. IsRawOf s value x.raw → state_of s (raw_of (last_payload w.start ws) s) ≡ Value value) signals x.place)
+          (sym split)
           (last_given.given earlier later x (chain_by earlier later x split) alone value));
       given_up = λ earlier later x split alone.
           in_bytes (λ b s. x.raw ≡ all_ones s → state_of s (raw_of b s) ≡ unset_state s) x.place
-          (subst (λ (ws : List Write). HoldsAt (λ s. x.raw ≡ all_ones s → state_of s (raw_of (last_payload w.start ws) s) ≡ unset_state s) signals x.place) (sym split)
+          (subst (λ (ws : List Write). HoldsAt (λ s. x.raw ≡ all_ones s → state_of s (raw_of (last_payload w.start ws) s) ≡ unset_state s) signals x.place)
+          (sym split)
           (last_given.given_up earlier later x (chain_by earlier later x split) alone));
       never_given = λ place less alone.
           in_bytes (λ b s. state_of s (raw_of b s) ≡ state_of s (raw_of w.start s)) place
@@ -153,9 +155,11 @@ module _ (plan : Plan) (timing : Timing) (stays : UnitPlan → Bool) (flow bits 
         (to + delay_of (traffic.stream flow) bound.wait))
         → to + (bound.frames.stream.jitter + bound.wait) < s.now → IsNewestFresh s planned of flow (pause + bits) (from + bits) (to + bits)
     of_flow pause from to stated =
-        subst (λ (b : ℕ). to + (bound.frames.stream.jitter + bound.wait) < s.now → IsNewestFresh s planned of flow (pause + b) (from + b) (to + b)) (sym bound.sum)
+        subst (λ (b : ℕ). to + (bound.frames.stream.jitter + bound.wait) < s.now → IsNewestFresh s planned of flow (pause + b) (from + b) (to + b))
+        (sym bound.sum)
         (subst (λ (f : FlowFrames). to + (f.stream.jitter + bound.wait) < s.now
-        → IsNewestFresh s planned of flow (pause + delay_of f.stream bound.wait) (from + delay_of f.stream bound.wait) (to + delay_of f.stream bound.wait)) placed stated)
+        → IsNewestFresh s planned of flow (pause + delay_of f.stream bound.wait) (from + delay_of f.stream bound.wait)
+        (to + delay_of f.stream bound.wait)) placed stated)
 
 -- ---- needs
 
@@ -204,19 +208,23 @@ module _ (plan : Plan) (timing : Timing) (clean : Clean plan) (stays : UnitPlan 
         in_any_order = λ silent s controllers planned of legal known bytes written from to coming seen.
             both plan clean fresh.flow.group group at s planned of fresh.place bytes written (silent + fresh.bits)
             (from + fresh.bits) (to + fresh.bits)
-            (of_flow plan timing stays fresh.place fresh.bits fresh.bounded s planned of known.known (fresh.bounded.in_any_order s controllers planned of legal known) its_spaced
+            (of_flow plan timing stays fresh.place fresh.bits fresh.bounded s planned of known.known
+            (fresh.bounded.in_any_order s controllers planned of legal known) its_spaced
             silent from to
             (newest_in_any_order s controllers planned of _ _ fresh.place fresh.bounded.wait silent from to legal
-            (come plan timing stays fresh.place fresh.bits fresh.bounded s planned of known.known (fresh.bounded.in_any_order s controllers planned of legal known)
+            (come plan timing stays fresh.place fresh.bits fresh.bounded s planned of known.known
+            (fresh.bounded.in_any_order s controllers planned of legal known)
             its_spaced) coming)
             seen);
         in_order = λ silent ordered s planned of legal known bytes written from to coming seen.
             both plan clean fresh.flow.group group at s planned of fresh.place bytes written (silent + fresh.bits)
             (from + fresh.bits) (to + fresh.bits)
-            (of_flow plan timing stays fresh.place fresh.bits fresh.bounded s planned of known (fresh.bounded.bounds ordered s planned of legal known) its_spaced
+            (of_flow plan timing stays fresh.place fresh.bits fresh.bounded s planned of known
+            (fresh.bounded.bounds ordered s planned of legal known) its_spaced
             silent from to
             (newest_in_order s planned of _ _ fresh.place fresh.bounded.wait silent from to legal
-            (come plan timing stays fresh.place fresh.bits fresh.bounded s planned of known (fresh.bounded.bounds ordered s planned of legal known) its_spaced) coming)
+            (come plan timing stays fresh.place fresh.bits fresh.bounded s planned of known
+            (fresh.bounded.bounds ordered s planned of legal known) its_spaced) coming)
             seen);
       }
 

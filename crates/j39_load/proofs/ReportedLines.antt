@@ -34,7 +34,8 @@ pub record IsReportedAt {X Y : Type 0} (report : ℕ → X → List Y) (place : 
   pub value_is : slice_get xs k ≡ Some value
   pub reported : Contains (report (place + k) value) line
 
-pub reported_at : {X Y : Type 0} (report : ℕ → X → List Y) (place : ℕ) (xs : List X) (line : Y) → Contains (lines_of_each report place xs) line → IsReportedAt report place xs line
+pub reported_at : {X Y : Type 0} (report : ℕ → X → List Y) (place : ℕ) (xs : List X) (line : Y) → Contains (lines_of_each report place xs) line
+    → IsReportedAt report place xs line
 unfolding lines_of_each
 reported_at report place [] line found = let none = found.1 in absurd (omega (arith, none))
 reported_at report place (x ∷ xs) line found = elim (Contains-append_cases (report place x) (lines_of_each report (place + 1) xs) line found) [

@@ -137,7 +137,8 @@ module _ (timing : Timing) (plan : Plan) (stays : UnitPlan → Bool) where
     rises = λ is.
         let held : ℕ → ℕ = of_unit units (greatest_address stays) in
         let less = packet_below timing.transport_priority (destination_at (of_unit units (least_address stays)) flow.to)
-        (of_unit units (least_address stays) flow.sender) (held v) (held flow.sender) (destination_few stays units flow.to) (source_few stays units flow.sender) in
+        (of_unit units (least_address stays) flow.sender) (held v) (held flow.sender) (destination_few stays units flow.to)
+        (source_few stays units flow.sender) in
         below_max _ _ _ less;
     placed = λ w is. placed w (two_ends units flow.sender v w is);
   }
@@ -167,7 +168,8 @@ module _ (timing : Timing) (plan : Plan) (stays : UnitPlan → Bool) where
   }
 
   pub all_sent : All (λ (frames : Option FlowFrames). IfSome frames IsSent) (frames_asked (asked_of timing plan stays))
-  all_sent = each_fits timing plan stays IsSent single session broadcast (λ flow pace group askers. wants (broadcast_for timing pace askers (broadcast_of timing flow pace group))) asking
+  all_sent = each_fits timing plan stays IsSent single session broadcast
+      (λ flow pace group askers. wants (broadcast_for timing pace askers (broadcast_of timing flow pace group))) asking
 
 -- ---- plans whose units all keep order
 
@@ -191,7 +193,8 @@ module _ (timing : Timing) (plan : Plan) (stays : UnitPlan → Bool)
 
   all_ordered : All (λ (frames : Option FlowFrames). IfSome frames (λ (f : FlowFrames). keep_order f ≡ true)) (frames_asked (asked_of timing plan stays))
   all_ordered = each_fits timing plan stays (λ (f : FlowFrames). keep_order f ≡ true) (λ flow pace group askers. one_none flow.sender)
-      (λ flow v pace packets askers. two_none flow.sender v) (λ pgn u gaps place. one_none u) (λ flow pace group askers. refl) (λ request period. one_none request.sender)
+      (λ flow v pace packets askers. two_none flow.sender v) (λ pgn u gaps place. one_none u) (λ flow pace group askers. refl)
+      (λ request period. one_none request.sender)
 
   pub in_order : AreAllOrdered (frames_asked (asked_of timing plan stays))
   in_order j = go (get_or (frames_asked (asked_of timing plan stays)) j None) refl

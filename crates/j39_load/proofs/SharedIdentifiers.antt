@@ -121,7 +121,8 @@ module _ (plan : Plan) (clean : Clean plan) (named : ℕ → Bool) (address : �
   made_alike x y n m u v to other a b same =
       let first = apart.range u a.from_named in
       let second = apart.range v b.from_named in
-      let stated = other_idents.states a.priority b.priority n m (destination_at address to) (destination_at address other) (address u) (address v) a.page b.page
+      let stated = other_idents.states a.priority b.priority n m (destination_at address to) (destination_at address other) (address u)
+      (address v) a.page b.page
       (other_idents.few plan clean named address apart to a.to_named) (other_idents.few plan clean named address apart other b.to_named) (omega (arith, first))
       (omega (arith, second)) a.low b.low (sym a.is ∙ (same ∙ b.is)) in (
         stated.1,
@@ -319,7 +320,8 @@ module _ (plan : Plan) (timing : Timing) (clean : Clean plan) (s : Schedule) (he
     pub no_request : (y from : ℕ) (to : To) → IsMade (held.named t) (held.address t) y 59904 from to → s.ident p ≡ y → ⊥
     no_request y from to made same = no_service y 59904 from to (1, omega arith, refl) made same
 
-    pub no_broadcast : (y number from : ℕ) → (number ≡ 60416) ⊎ (number ≡ 60160) → IsMade (held.named t) (held.address t) y number from ToAllUnits → s.ident p ≡ y → ⊥
+    pub no_broadcast : (y number from : ℕ) → (number ≡ 60416) ⊎ (number ≡ 60160) → IsMade (held.named t) (held.address t) y number from ToAllUnits
+        → s.ident p ≡ y → ⊥
     no_broadcast y number from (inl is) made same = no_service y number from ToAllUnits (3, omega arith, sym is) made same
     no_broadcast y number from (inr is) made same = no_service y number from ToAllUnits (2, omega arith, sym is) made same
 
@@ -363,11 +365,13 @@ module _ (plan : Plan) (timing : Timing) (clean : Clean plan) (s : Schedule) (he
         let a = of_single f release p one at_p in
         let b = of_single g other q two at_q in
         inr (alike f g p q a b same stays one.pace two.pace
-        (other_idents.different plan clean (held.named t) (held.address t) apart f g one.flow two.flow one.group two.group differ (short_flow f release p one at_p)
+        (other_idents.different plan clean (held.named t) (held.address t) apart f g one.flow two.flow one.group two.group differ
+        (short_flow f release p one at_p)
         (short_flow g other q two at_q) (idents f g p q a b same)))
   ]
     where
-      short_flow : (f release p : ℕ) (one : IsSingleFrame plan timing s held f release p) → IsQueuedAt s p t → IsShortFlow plan (held.named t) f one.flow one.group
+      short_flow : (f release p : ℕ) (one : IsSingleFrame plan timing s held f release p) → IsQueuedAt s p t
+          → IsShortFlow plan (held.named t) f one.flow one.group
       short_flow f release p one queued = record {
         its = one.its;
         sent = one.of;
@@ -385,7 +389,8 @@ module _ (plan : Plan) (timing : Timing) (clean : Clean plan) (s : Schedule) (he
       let a = of_single f release p one at_p in
       let b = of_first g other q two at_q in
       alike f g p q a b same stays one.pace two.pace
-      (other_idents.short_and_long plan clean (held.named t) (held.address t) apart f g one.flow two.flow one.group two.group a.sends b.sends (idents f g p q a b same)
+      (other_idents.short_and_long plan clean (held.named t) (held.address t) apart f g one.flow two.flow one.group two.group a.sends b.sends
+      (idents f g p q a b same)
       one.short two.long)
 
   -- and two of such flows, where the one has a twin
@@ -397,5 +402,6 @@ module _ (plan : Plan) (timing : Timing) (clean : Clean plan) (s : Schedule) (he
       let a = of_first f release p one at_p in
       let b = of_first g other q two at_q in
       alike f g p q a b same stays one.pace two.pace
-      (other_idents.twins_if_stated plan clean (held.named t) (held.address t) apart f g one.flow two.flow one.group two.group a.sends b.sends (idents f g p q a b same)
+      (other_idents.twins_if_stated plan clean (held.named t) (held.address t) apart f g one.flow two.flow one.group two.group a.sends b.sends
+      (idents f g p q a b same)
       v stated)

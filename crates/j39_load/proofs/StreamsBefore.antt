@@ -62,7 +62,8 @@ module _ (demands : List Demand) (report : ℕ → Option FlowFrames → List St
       ap (sum_by (lesser_share demands span)) (more report k all None (omega arith))
       ∙ sum_by-append (lesser_share demands span) (lines_of_each report 0 (take k all)) (report k (get_or all k None)) in
       let next : k + 1 ≡ suc k = omega arith in
-      subst (λ (n : ℕ). total k taken + taken k ≤ sum_by (lesser_share demands span) (lines_of_each report 0 (take n all))) next (omega (arith, before, this, both))
+      subst (λ (n : ℕ). total k taken + taken k ≤ sum_by (lesser_share demands span) (lines_of_each report 0 (take n all))) next
+      (omega (arith, before, this, both))
 
   pub taken_within : total (length all) taken ≤ sum_by (lesser_share demands span) (lines_of_each report 0 all)
   taken_within = subst (λ (xs : List (Option FlowFrames)). total (length all) taken ≤ sum_by (lesser_share demands span) (lines_of_each report 0 xs))
@@ -74,10 +75,11 @@ module _ (demands : List Demand) (all : List (Option FlowFrames)) (i : ℕ) (own
   taken j = cond (counts_before i own j (planned_at all j)) (lesser_share demands span (planned_at all j).stream) 0
 
   taken_most : (j : ℕ) (frames : Option FlowFrames) → get_or all j None ≡ frames → taken j ≤ sum_by (lesser_share demands span) (going_before i own j frames)
-  taken_most j None is = rw (is) (elim (counts_before i own j no_frames) as (λ e. cond e (lesser_share demands span no_frames.stream) 0 ≤ sum_by (lesser_share demands span) []) [
-    | true ↦ omega arith
-    | false ↦ omega arith
-  ])
+  taken_most j None is = rw (is) (elim (counts_before i own j no_frames) as
+      (λ e. cond e (lesser_share demands span no_frames.stream) 0 ≤ sum_by (lesser_share demands span) []) [
+        | true ↦ omega arith
+        | false ↦ omega arith
+      ])
   taken_most j (Some frames) is = rw (is) (elim (eqb j i)
       as (λ e. cond (cond e (are_asked_for frames) (may_precede own frames)) (lesser_share demands span frames.stream) 0
       ≤ sum_by (lesser_share demands span) (if e then own_before frames else frames_before own frames)) [
@@ -118,7 +120,8 @@ module _ (demands : List Demand) (i : ℕ) (own : FlowFrames) (span : ℕ) where
       omega (arith, first, rest, parts, one)
     where
       go : (same goes asked : Bool)
-          → sum_by (lesser_share demands span) (if same then (if asked then stream ∷ [] else []) else (if goes then stream ∷ [] else [])) ≤ lesser_share demands span stream
+          → sum_by (lesser_share demands span) (if same then (if asked then stream ∷ [] else []) else (if goes then stream ∷ [] else []))
+          ≤ lesser_share demands span stream
       go true goes true = rw (sum_by-cons (lesser_share demands span) stream []) (omega arith)
       go true goes false = omega arith
       go false true asked = rw (sum_by-cons (lesser_share demands span) stream []) (omega arith)
@@ -131,7 +134,8 @@ module _ (demands : List Demand) (i : ℕ) (own : FlowFrames) (span : ℕ) where
   all_before timing all =
       let whole = whole_taken demands (all ++ damage_frames timing) i own span in
       let two = ap (sum_by (lesser_share demands span)) (stated_of_two (going_before i own) 0 all (damage_frames timing)) in
-      let parts = sum_by-append (lesser_share demands span) (lines_of_each (going_before i own) 0 all) (lines_of_each (going_before i own) (0 + length all) (damage_frames timing)) in
+      let parts = sum_by-append (lesser_share demands span) (lines_of_each (going_before i own) 0 all)
+      (lines_of_each (going_before i own) (0 + length all) (damage_frames timing)) in
       let damage = damage_most (0 + length all) (damage_streams timing) in
       let needed = sum_by-append (lesser_share demands span) (damage_streams timing) (lines_of_each (going_before i own) 0 all) in
       omega (arith, whole, two, parts, damage, needed)

@@ -20,12 +20,14 @@ use Rattle.j39_load.specs.Loads.{is_always_short, long_messages, single_frames}
 use Rattle.j39_timing.specs.Waits.{IsSpaced, askers_want}
 use Rattle.std.proofs.Common.{length}
 
-module _ (timing : Timing) (plan : Plan) (stays : UnitPlan → Bool) (flow : FlowPlan) (load : FlowLoad) (frames : FlowFrames) (short : load.messages ≡ Short frames)
+module _ (timing : Timing) (plan : Plan) (stays : UnitPlan → Bool) (flow : FlowPlan) (load : FlowLoad) (frames : FlowFrames)
+    (short : load.messages ≡ Short frames)
     (none_asks : askers_of plan.requests.items flow ≡ 0) where
   module _ (pace : Pace) (group : GroupPlan) where
     by_length : (b : Bool) (to : To)
         → messages_for timing pace (askers_of plan.requests.items flow)
-        (if b then Short (single_frames timing plan.units.items stays flow pace group) else long_messages timing plan.units.items stays flow pace group to) ≡ Short frames
+        (if b then Short (single_frames timing plan.units.items stays flow pace group) else long_messages timing plan.units.items stays flow pace group to)
+        ≡ Short frames
         → IsSpaced frames.stream
     by_length true to is =
         let same : frames_for timing pace (askers_of plan.requests.items flow) (single_frames timing plan.units.items stays flow pace group) ≡ frames = cc in

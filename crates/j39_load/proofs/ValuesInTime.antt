@@ -40,7 +40,8 @@ use Rattle.j39_timing.specs.FreshFrames.{KeepsComing}
 use Rattle.j39_timing.specs.TimedFrames.{Schedule}
 
 -- a time that is over in so many bits more
-aged : (timing : Timing) (time : ℕ → ℕ) → IsTrueTime timing time → (pause within bits born last now : ℕ) → last + bits ≡ now → time last < time born + 1000 * pause * longest_million timing
+aged : (timing : Timing) (time : ℕ → ℕ) → IsTrueTime timing time → (pause within bits born last now : ℕ) → last + bits ≡ now
+    → time last < time born + 1000 * pause * longest_million timing
     → us_of_unit_ms timing pause + us_of_bits timing bits ≤ within → time now ≤ time born + within * million
 aged timing time clock pause within bits born last now sum near asked =
     let on = clock.at_most last now (omega (arith, sum)) in
@@ -83,7 +84,8 @@ module _ (plan : Plan) (timing : Timing) (stays : UnitPlan → Bool) (flow : Flo
       by_length false ToAllUnits fits same = absurd (let stated = same in cc)
       by_length false (One v) fits same = absurd (let stated = same in cc)
 
-module _ (plan : Plan) (timing : Timing) (clean : Clean plan) (stays : UnitPlan → Bool) (delays : List (Option Delay)) (asks : AsksOfBus plan timing stays delays)
+module _ (plan : Plan) (timing : Timing) (clean : Clean plan) (stays : UnitPlan → Bool) (delays : List (Option Delay))
+    (asks : AsksOfBus plan timing stays delays)
     (need : NeedPlan) (within : ℕ) (read : IsNeedRead plan timing (asked_of timing plan stays) delays need within) where
   its_load : load_of_flow timing plan stays read.fresh.flow ≡ Some read.fresh.bounded.load
   its_load = same_Some _ (Some read.fresh.bounded.load)
@@ -133,7 +135,8 @@ module _ (plan : Plan) (timing : Timing) (clean : Clean plan) (stays : UnitPlan 
       let silent = last - sent.release p + 1 in
       let coming : KeepsComing s planned (origins_of plan sent) read.fresh.place silent last last =
       λ u first end. (p, in_p, is, source, omega (arith, release, first), omega (arith, release, end)) in
-      let (some, each) = young silent bytes written last last coming (omega (arith, seen, sum, delay, fewer, up, back)) t (omega (arith, back)) (omega (arith, back)) in (
+      let (some, each) = young silent bytes written last last coming (omega (arith, seen, sum, delay, fewer, up, back)) t (omega (arith, back))
+      (omega (arith, back)) in (
         some,
         λ q newest.
             let reads = each q newest in

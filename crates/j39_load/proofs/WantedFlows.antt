@@ -75,7 +75,8 @@ module _ (u : ℕ) where
         → AsWanted (load_of_flow timing plan stays flow)
     of_flow flow None group paced at = rw (paced) (refl, refl)
     of_flow flow (Some pace) None paced at = rw (paced, at) (refl, refl)
-    of_flow flow (Some pace) (Some group) paced at = rw (paced, at) (by_lengths flow pace group (askers_of plan.requests.items flow) (is_always_short group) (has_short group))
+    of_flow flow (Some pace) (Some group) paced at = rw (paced, at)
+        (by_lengths flow pace group (askers_of plan.requests.items flow) (is_always_short group) (has_short group))
 
     one : (flow : FlowPlan) → AsWanted (load_of_flow timing plan stays flow)
     one flow = of_flow flow flow.pace (slice_get plan.groups.items flow.group) refl refl
@@ -132,7 +133,8 @@ module _ (u : ℕ) where
         ∙ before (map frames_of_flow flow_loads)
         (map singles_of_flow flow_loads ++ (map packets_of_unit unit_loads ++ (map announcements_of_unit unit_loads ++ map frames_of_request request_loads)))
         (broadcasts_by u flow_loads) (own_wanted plan.flows.items)
-        (before (map singles_of_flow flow_loads) (map packets_of_unit unit_loads ++ (map announcements_of_unit unit_loads ++ map frames_of_request request_loads))
+        (before (map singles_of_flow flow_loads) (map packets_of_unit unit_loads
+        ++ (map announcements_of_unit unit_loads ++ map frames_of_request request_loads))
         [] (singles_wanted plan.flows.items)
         (before (map packets_of_unit unit_loads) (map announcements_of_unit unit_loads ++ map frames_of_request request_loads) [] packets_wanted
         (before (map announcements_of_unit unit_loads) (map frames_of_request request_loads) [] announcements_wanted requests_wanted)))

@@ -1,5 +1,6 @@
 -- The times that are reported of long messages to all bound when they are whole.
-use Rattle.std.proofs.Common.{◌≡◌, ℕ, zero, suc, ◌+◌, ◌*◌, ◌<◌, ◌≤◌, Bool, true, false, not, leb, if◌then◌else◌, List, [], ◌∷◌, ◌++◌, length, get_or, map, sum_by}
+use Rattle.std.proofs.Common.{◌≡◌, ℕ, zero, suc, ◌+◌, ◌*◌, ◌<◌, ◌≤◌, Bool, true, false, not, leb, if◌then◌else◌, List, [], ◌∷◌, ◌++◌, length, get_or, map}
+use Rattle.std.proofs.Common.{sum_by}
 use Rattle.std.proofs.Common.{Option, Some, None}
 use Rattle.std.proofs.Common.{refl, sym, ap, ◌∙◌, subst, inl, inr, arith}
 use Rattle.std.proofs.Math.Nat.{mul-le-mul_left}
@@ -175,9 +176,11 @@ module _ (plan : Plan) (timing : Timing) (stays : UnitPlan → Bool) where
           let p = packets_place asked u in
           let gap = bits_at_most timing timing.broadcast_gap_most in
           let counts = of_unit_load timing plan.units.items stays asked.flows u load its in
-          let announcements = sent_in_any_order timing asked.unplanned_end (frames_asked asked) (all_paced timing plan stays) (all_sent timing plan stays) buffering is_buffering
+          let announcements = sent_in_any_order timing asked.unplanned_end (frames_asked asked) (all_paced timing plan stays)
+          (all_sent timing plan stays) buffering is_buffering
           a load.announcements (announcements_read asked u load its) announced s controllers planned of legal of_announcements counts.2 first in
-          let packets = sent_in_any_order timing asked.unplanned_end (frames_asked asked) (all_paced timing plan stays) (all_sent timing plan stays) buffering is_buffering
+          let packets = sent_in_any_order timing asked.unplanned_end (frames_asked asked) (all_paced timing plan stays)
+          (all_sent timing plan stays) buffering is_buffering
           p load.packets (packets_read asked u load its) sent s controllers planned of legal of_packets counts.3 rest in
           let most : time_of_messages (announced + load.announcements.stream.bits) gap (sent + load.packets.stream.bits) messages
           ≤ turn_time timing load announced sent =
@@ -186,7 +189,8 @@ module _ (plan : Plan) (timing : Timing) (stays : UnitPlan → Bool) where
           (subst (λ (n : ℕ). time_of_messages (announced + load.announcements.stream.bits) gap (sent + load.packets.stream.bits) messages
           ≤ length (broadcasts_by u asked.flows) * (announced + load.announcements.stream.bits) + n * packet_time timing load sent) (sym counts.1)
           (turn_most (announced + load.announcements.stream.bits) gap (sent + load.packets.stream.bits) (broadcasts_by u asked.flows) messages turn)) in
-          let whole = messages_whole s planned of a p gap announced sent load.announcements.stream load.packets.stream announcements packets messages (release + late)
+          let whole = messages_whole s planned of a p gap announced sent load.announcements.stream load.packets.stream announcements packets messages
+          (release + late)
           in_turn known (omega (arith, most, seen)) in
           omega (arith, whole, most)
 

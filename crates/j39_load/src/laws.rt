@@ -63,14 +63,14 @@ ghost use Rattle.j39_tp.specs.Receiver.{Receiving};
 ghost use Rattle.j39_tp.specs.declared.sending.outcome.Outcome.TheVariants.{Acked, Sent};
 ghost use Rattle.j39_world.specs.HeldAddresses.{ArePlannedApart};
 
-/// The delays of a plan bound the time of its frames. A delay that `Loads::delays` reports holds in every schedule whose
-/// planned frames are those of the plan's flows, of which a flow without a period has none, whether units keep order or
-/// don't; and where each unit of the plan keeps it, in every legal schedule of such frames (`bounds`). So does one that
-/// is above the flow's deadline (`beyond`), an age that is reported of a need, whatever the need asks for (`ages`), and a
-/// time in which long messages to all are whole (`whole`); and where `load_findings` finds nothing, it reports a delay of each
-/// flow whose messages go in one frame, within the flow's limit (`short`), and a time of each flow with long messages
-/// to all of which a deadline is written, within this (`deadlines`). So it is of a plan in which `check_load` finds
-/// nothing (`checked`).
+/// The delays of a plan bound the time of its frames. A delay that `Loads::delays` reports holds in every schedule
+/// whose planned frames are those of the plan's flows, of which a flow without a period has none, whether units keep
+/// order or don't; and where each unit of the plan keeps it, in every legal schedule of such frames (`bounds`). So does
+/// one that is above the flow's deadline (`beyond`), an age that is reported of a need, whatever the need asks for
+/// (`ages`), and a time in which long messages to all are whole (`whole`); and where `load_findings` finds nothing, it
+/// reports a delay of each flow whose messages go in one frame, within the flow's limit (`short`), and a time of each
+/// flow with long messages to all of which a deadline is written, within this (`deadlines`). So it is of a plan in
+/// which `check_load` finds nothing (`checked`).
 pub fn delays_are_bounds()
     ensures bounds { (plan : Plans) (timing : Timings) (stays : PlannedUnits → Bool) (delays : List (Option Delays))
         → AsksOfBus plan timing stays delays → AreDelaysBounds timing (asked_of timing plan stays) delays }
@@ -92,8 +92,8 @@ pub fn delays_are_bounds()
         → ArePlannedFramesInTime plan timing }
 {}
 
-/// A flow is reported as asked for too often exactly where it comes only as an answer, has a period, and in each time that
-/// is a whole number of the periods of the requests for it more of them come than the flow has periods.
+/// A flow is reported as asked for too often exactly where it comes only as an answer, has a period, and in each time
+/// that is a whole number of the periods of the requests for it more of them come than the flow has periods.
 pub fn flows_asked_for_too_often_are_reported()
     ensures { (plan : Plans) (timing : Timings) → AreAskedMore plan timing }
 {}
@@ -134,9 +134,9 @@ pub fn plans_in_order()
 {}
 
 /// Where each unit holds its planned address, or one of 128 to 247 if it may choose and isn't one that stays, the
-/// identifiers of a flow's frames lie between the least and the greatest one that are reported of the flow, and so do those
-/// of a long message's packets, and of its sender's announcements and packets to all (`flows`); and that of a request
-/// lies between those that are reported of it (`requests`).
+/// identifiers of a flow's frames lie between the least and the greatest one that are reported of the flow, and so do
+/// those of a long message's packets, and of its sender's announcements and packets to all (`flows`); and that of a
+/// request lies between those that are reported of it (`requests`).
 pub fn identifiers_lie_between()
     ensures flows { (plan : Plans) (timing : Timings) (stays : PlannedUnits → Bool) (held : ℕ → ℕ)
         → DecidesWhoStays plan stays → AreHeldByPlan plan held
@@ -165,7 +165,8 @@ pub fn frames_that_keep_a_plan()
         → IsSingleFlow plan i
         → IsLegalInAnyOrder s controllers → KeepsToPlan plan timing s planned sent held
         → KeepsQueues plan timing s controllers planned sent
-        → AreFramesInAnyOrder timing (unplanned_end plan) (frames_asked (asked_of timing plan stays)) s controllers planned (origins_of plan sent) i }
+        → AreFramesInAnyOrder timing (unplanned_end plan)
+        (frames_asked (asked_of timing plan stays)) s controllers planned (origins_of plan sent) i }
     ensures with_errors { (plan : Plans) (timing : Timings) (stays : PlannedUnits → Bool) → Clean plan
         → DecidesWhoStays plan stays
         → (s : Schedule) (d : Damaged) (planned : ℕ
@@ -184,8 +185,10 @@ pub fn broadcasts_that_keep_a_plan()
         → (s : Schedule) (planned : ℕ → Bool) (sent : FrameSources) (held : Held) (u m : ℕ)
         → m < sent.broadcasts.count u → IsLegal s
         → KeepsToPlan plan timing s planned sent held → KeepsTurns s planned sent held
-        → ComeInTurn timing (frames_asked (asked_of timing plan stays)) s planned (origins_of plan sent) (announcements_place (asked_of timing plan stays) u)
-        × ComeInTurn timing (frames_asked (asked_of timing plan stays)) s planned (origins_of plan sent) (packets_place (asked_of timing plan stays) u) }
+        → ComeInTurn timing (frames_asked (asked_of timing plan stays)) s planned (origins_of plan sent)
+        (announcements_place (asked_of timing plan stays) u)
+        × ComeInTurn timing (frames_asked (asked_of timing plan stays)) s planned (origins_of plan sent)
+        (packets_place (asked_of timing plan stays) u) }
     ensures any_order { (plan : Plans) (timing : Timings) (stays : PlannedUnits → Bool) → Clean plan
         → DecidesWhoStays plan stays
         → (s : Schedule) (controllers : Controllers) (planned : ℕ → Bool) (sent : FrameSources) (held : Held) (u m : ℕ)
@@ -193,16 +196,18 @@ pub fn broadcasts_that_keep_a_plan()
         → IsLegalInAnyOrder s controllers → KeepsToPlan plan timing s planned sent held
         → KeepsQueues plan timing s controllers planned sent
         → KeepsTurns s planned sent held
-        → ComeInAnyOrder timing (unplanned_end plan) (frames_asked (asked_of timing plan stays)) s controllers planned (origins_of plan sent)
+        → ComeInAnyOrder timing (unplanned_end plan) (frames_asked (asked_of timing plan stays)) s controllers planned
+        (origins_of plan sent)
         (announcements_place (asked_of timing plan stays) u)
-        × ComeInAnyOrder timing (unplanned_end plan) (frames_asked (asked_of timing plan stays)) s controllers planned (origins_of plan sent)
+        × ComeInAnyOrder timing (unplanned_end plan) (frames_asked (asked_of timing plan stays)) s controllers planned
+        (origins_of plan sent)
         (packets_place (asked_of timing plan stays) u) }
 {}
 
 /// And a bus can keep to a plan in its own words: where no two units have one planned address, each flow whose messages
-/// go in one frame and that has a period can be sent alone, as often as one likes (`short`), also where it comes only as
-/// an answer and no more is asked of it than its period lets; and so can messages of one frame of a flow that has long
-/// ones too (`long`).
+/// go in one frame and that has a period can be sent alone, as often as one likes (`short`), also where it comes only
+/// as an answer and no more is asked of it than its period lets; and so can messages of one frame of a flow that has
+/// long ones too (`long`).
 pub fn plans_can_be_kept()
     ensures short { (plan : Plans) (timing : Timings) → ArePlannedApart (units_of plan)
         → (f : ℕ) (flow : PlannedFlows) (pace : PlannedPaces) (group : PlannedGroups)
@@ -217,8 +222,8 @@ pub fn plans_can_be_kept()
 {}
 
 /// And all of it at once: such a flow can be sent as late as its jitter allows, as often as one likes, where the first
-/// frame is damaged once, or waits for one that its unit leaves half sent, on a bus that keeps to the plan and to what it
-/// reports of damage, and that is legal whether its units keep order or not.
+/// frame is damaged once, or waits for one that its unit leaves half sent, on a bus that keeps to the plan and to what
+/// it reports of damage, and that is legal whether its units keep order or not.
 pub fn plans_can_be_kept_together()
     ensures { (plan : Plans) (timing : Timings) → ArePlannedApart (units_of plan)
         → (f : ℕ) (flow : PlannedFlows) (pace : PlannedPaces) (group : PlannedGroups)
@@ -252,7 +257,8 @@ pub fn plans_can_be_kept_whole()
         → is_asked_too_often plan.requests.items flow ≡ false
         → is_asked_too_often plan.requests.items other ≡ false
         → is_asked_too_often plan.requests.items to_all ≡ false
-        → (6 + (packets + more)) * (160 + bits_of_ms timing timing.broadcast_gap) * bit_time timing.bitrate ≤ 1000 * its.period
+        → (6 + (packets + more)) * (160 + bits_of_ms timing timing.broadcast_gap) * bit_time timing.bitrate
+        ≤ 1000 * its.period
         → CanSendAll plan timing f g r to_all.sender packets more }
 {}
 
@@ -274,8 +280,8 @@ pub fn plans_can_be_kept_without_a_unit()
         → (first : ℕ → Bool) (n : ℕ) → CanBeKeptWithout plan timing u f g first n }
 {}
 
-/// And where no two units have one planned address, a long message to all of a flow can be sent to its end on a bus that
-/// keeps to the plan, whether its units keep order or not, and on which units take turns.
+/// And where no two units have one planned address, a long message to all of a flow can be sent to its end on a bus
+/// that keeps to the plan, whether its units keep order or not, and on which units take turns.
 pub fn long_messages_can_be_sent_whole()
     ensures { (plan : Plans) (timing : Timings) → ArePlannedApart (units_of plan)
         → (f : ℕ) (flow : PlannedFlows) (pace : PlannedPaces) (group : PlannedGroups)
@@ -286,9 +292,9 @@ pub fn long_messages_can_be_sent_whole()
         → CanBeSentWhole plan timing f flow.sender packets }
 {}
 
-/// A time in bits that is reported is within so many milliseconds exactly where no more bits are reported than last no longer
-/// (`reported`). And where clocks agree (`drift` is 0) so many milliseconds have the bits of the bus's own, by whichever clock
-/// (`least`, `most`, `inside`), and a time that is reported is that of its bits (`exact`).
+/// A time in bits that is reported is within so many milliseconds exactly where no more bits are reported than last no
+/// longer (`reported`). And where clocks agree (`drift` is 0) so many milliseconds have the bits of the bus's own, by
+/// whichever clock (`least`, `most`, `inside`), and a time that is reported is that of its bits (`exact`).
 pub fn clocks_are_counted()
     ensures stated { (timing : Timings) (bits ms : ℕ)
         → (us_of_bits timing bits ≤ 1000 * ms) ↔ (bits ≤ bits_inside timing ms) }
@@ -300,8 +306,9 @@ pub fn clocks_are_counted()
 {}
 
 /// What `load` counts bounds the planned frames of a bus whose clocks agree (`drift` is 0): on each bus that keeps to a
-/// clean plan in the plan's own words no more bits of them are queued than `total_load` a second, and a number more that is the same however long the bus
-/// runs; so it is with the bits of damaged attempts and of the error frames behind them.
+/// clean plan in the plan's own words no more bits of them are queued than `total_load` a second, and a number more
+/// that is the same however long the bus runs; so it is with the bits of damaged attempts and of the error frames
+/// behind them.
 pub fn loads_hold_in_the_long_run()
     ensures { (plan : Plans) (timing : Timings) (stays : PlannedUnits → Bool) → Clean plan
         → DecidesWhoStays plan stays
@@ -309,10 +316,11 @@ pub fn loads_hold_in_the_long_run()
 {}
 
 /// Of a clean plan, whatever is found of its load: on each bus that keeps to it in the plan's own words each frame of a
-/// flow each message of which goes in one frame has been sent within the time that is reported of the flow from its release,
-/// also where this is above the flow's deadline, whether units keep order or not.
+/// flow each message of which goes in one frame has been sent within the time that is reported of the flow from its
+/// release, also where this is above the flow's deadline, whether units keep order or not.
 pub fn kept_plans_keep_reported_times()
-    ensures { (plan : Plans) (timing : Timings) (stays : PlannedUnits → Bool) (delays : List (Option Delays)) → Clean plan
+    ensures { (plan : Plans) (timing : Timings) (stays : PlannedUnits → Bool) (delays : List (Option Delays))
+        → Clean plan
         → AsksOfBus plan timing stays delays → AreTimesKept plan timing delays }
 {}
 
@@ -331,8 +339,8 @@ pub fn kept_plans_are_in_time()
 {}
 
 /// Of such a plan no receiver gives up a long message to all that has a deadline, on each bus that keeps to it in the
-/// plan's own words, whether units keep order or not, where each packet is queued within `broadcast_gap_most` of the end
-/// of the frame before: it has ended within 750 ms of that end.
+/// plan's own words, whether units keep order or not, where each packet is queued within `broadcast_gap_most` of the
+/// end of the frame before: it has ended within 750 ms of that end.
 pub fn kept_plans_lose_no_receiver()
     ensures { (plan : Plans) (timing : Timings) → Clean plan → AreLoadFindings plan (Some timing) []
         → AreNotGivenUp plan timing }
@@ -355,8 +363,9 @@ pub fn kept_plans_bring_values_in_time()
 {}
 
 /// While units hold different addresses, frames of two flows of a clean plan between units that are on, each message of
-/// which goes in one frame, have two identifiers, unless both groups are distinguished by their data: then they have one
-/// wherever the units are (`flows`). And no request between units that are on has that of such a frame (`requests`).
+/// which goes in one frame, have two identifiers, unless both groups are distinguished by their data: then they have
+/// one wherever the units are (`flows`). And no request between units that are on has that of such a frame
+/// (`requests`).
 pub fn short_flows_have_different_identifiers()
     ensures flows { (plan : Plans) → Clean plan → (named : ℕ → Bool) (held : ℕ → ℕ) → AreHeldApart named held
         → (f h : ℕ) (flow other : PlannedFlows) (group second : PlannedGroups) → f ≢ h

@@ -19,8 +19,8 @@ mod requests;
 mod unit_load;
 
 use crate::frames::{PlannedBus, load_of_damage};
-pub use answers::{answered_within, askers_of};
 use crate::live_claims::unplanned_end;
+pub use answers::{answered_within, askers_of};
 use broadcasts::unit_loads_of;
 pub use flow_load::FlowLoad;
 use flow_loads::loads_of;

@@ -65,7 +65,8 @@ one_more_line parameters signals bytes old new all i s less here written before 
     let rest : List NamedSignal = drop (i + 1) signals in
     let next : named_signal_lines parameters (named_single_signals n (drop i signals)) bytes
     ≡ lines_of (stands_once n s.0) (read_line parameters bytes s) ++ named_signal_lines parameters (named_single_signals n rest) bytes =
-    ap (λ (xs : List NamedSignal). named_signal_lines parameters (named_single_signals n xs) bytes) (drop_more signals i s less ∙ ap (λ (t : NamedSignal). t ∷ rest) (sym here))
+    ap (λ (xs : List NamedSignal). named_signal_lines parameters (named_single_signals n xs) bytes)
+    (drop_more signals i s less ∙ ap (λ (t : NamedSignal). t ∷ rest) (sym here))
     ∙ with_first (stands_once n s.0) parameters s (named_single_signals n rest) bytes in
     rw (written, append_assoc) (rw next at before)
 
@@ -96,7 +97,8 @@ one_more_record_line parameters place behind signals bytes old new all i s less 
     let line : List ℕ = record_lines_of s.0.repeated (named_record_line place s.0 (raw_text parameters s (raw_of bytes (further behind s.0)))) in
     let next : named_record_lines parameters place (named_record_signals behind (drop i signals)) bytes
     ≡ line ++ named_record_lines parameters place (named_record_signals behind rest) bytes =
-    ap (λ (xs : List NamedSignal). named_record_lines parameters place (named_record_signals behind xs) bytes) (drop_more signals i s less ∙ ap (λ (t : NamedSignal). t ∷ rest) (sym here))
+    ap (λ (xs : List NamedSignal). named_record_lines parameters place (named_record_signals behind xs) bytes)
+    (drop_more signals i s less ∙ ap (λ (t : NamedSignal). t ∷ rest) (sym here))
     ∙ with_record s.0.repeated parameters place behind s (filter (λ (t : NamedSignal). t.0.repeated) rest) bytes in
     rw (written, append_assoc) (rw next at before)
 

@@ -1,5 +1,6 @@
 -- The lines of records, one after another.
-use Rattle.std.proofs.Common.{◌≡◌, ℕ, Some, suc, ◌+◌, ◌*◌, ◌<◌, Bool, true, false, if◌then◌else◌, List, [], ◌∷◌, ◌++◌, map, zero, All, length, drop, get_or, refl}
+use Rattle.std.proofs.Common.{◌≡◌, ℕ, Some, suc, ◌+◌, ◌*◌, ◌<◌, Bool, true, false, if◌then◌else◌, List, [], ◌∷◌, ◌++◌, map, zero, All, length, drop, get_or}
+use Rattle.std.proofs.Common.{refl}
 use Rattle.std.proofs.Common.{sym, ap, subst, ◌∙◌, append_assoc, arith}
 use Rattle.std.specs.List.{HoldsAt}
 use Rattle.std.proofs.lemmas.Bool.{false≢true}

@@ -172,7 +172,8 @@ impl Listeners {
             ≡ receives (listener_of_pair self.old.rows.items source destination) packet.now) }
         ensures others { (s d : ℕ) → is_pair source destination s d ≡ false
             → listener_of_pair self.new.rows.items s d ≡ listener_of_pair self.old.rows.items s d }
-        ensures group { IfOk result (λ group. group ≡ completed_group (listener_of_pair self.old.rows.items source destination) packet.now) }
+        ensures group { IfOk result (λ group. group ≡ completed_group
+            (listener_of_pair self.old.rows.items source destination) packet.now) }
     {
         let source = usize::from(source);
         let destination = usize::from(destination);
@@ -207,7 +208,8 @@ impl Listeners {
 
     // The listener of a pair.
     fn listener(&self, source: u8, destination: u8) -> Option<&Receiver>
-        ensures some { IfSome result (λ listener. listener.now ≡ listener_of_pair self.now.rows.items source destination) }
+        ensures some { IfSome result (λ listener. listener.now
+            ≡ listener_of_pair self.now.rows.items source destination) }
         ensures none { IfNone result (listener_of_pair self.now.rows.items source destination ≡ fresh Listening) }
     {
         let row = self.rows.get(usize::from(source))?;
@@ -241,7 +243,8 @@ pub fn listen(
         ≡ (if is_heard_by source destination ident packet.now
         then receives (listener_of_pair listeners.old.rows.items source destination) packet.now
         else listener_of_pair listeners.old.rows.items source destination)) }
-    ensures group { IfOk result (λ group. group ≡ completed_group (listener_of_pair listeners.old.rows.items ident.sa ident.ps) packet.now) }
+    ensures group { IfOk result (λ group. group ≡ completed_group
+        (listener_of_pair listeners.old.rows.items ident.sa ident.ps) packet.now) }
 {
     if is_abort(packet) && ident.sa != ident.ps {
         listeners.hear(ident.ps, ident.sa, packet)?;

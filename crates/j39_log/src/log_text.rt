@@ -21,7 +21,8 @@ pub fn read_text<S: Source, W: Sink>(
     source: &mut S,
     sink: &mut W,
 ) -> CommandResult
-    ensures { AnswersInPieces (IsReadText plan.now) log_limits (S.state source.old) (S.state source.new) W.state sink.old sink.new result }
+    ensures { AnswersInPieces (IsReadText plan.now) log_limits (S.state source.old)
+        (S.state source.new) W.state sink.old sink.new result }
 {
     let mut report = AddressReport::new(alloc);
     report_log(alloc, plan, &mut report, source, sink)

@@ -91,7 +91,8 @@ impl NamedReading<'_> {
     fn write_shown(&self, text: &mut TextBuffer) -> WriteResult
         requires { self.now.shown ≡ shown_of self.now.signal.now self.now.shown.raw }
         ensures { OnOk result (text.new ≡ text.old
-            ++ raw_text (names_in self.now.parameters.now) (self.now.signal.now, names_in self.now.values.now) self.now.shown.raw) }
+            ++ raw_text (names_in self.now.parameters.now)
+            (self.now.signal.now, names_in self.now.values.now) self.now.shown.raw) }
     {
         match self.values.get(self.shown.raw) {
             Some(name) => {
@@ -108,7 +109,8 @@ impl NamedReading<'_> {
     fn write_signal(&self, text: &mut TextBuffer) -> WriteResult
         requires { self.now.shown ≡ shown_of self.now.signal.now self.now.shown.raw }
         ensures { OnOk result (text.new ≡ text.old ++ named_signal_line self.now.signal.now
-            (raw_text (names_in self.now.parameters.now) (self.now.signal.now, names_in self.now.values.now) self.now.shown.raw)) }
+            (raw_text (names_in self.now.parameters.now)
+            (self.now.signal.now, names_in self.now.values.now) self.now.shown.raw)) }
     {
         text.word("  ")?;
         text.word(self.signal.label().as_str())?;
@@ -121,7 +123,8 @@ impl NamedReading<'_> {
     fn write_line(&self, text: &mut TextBuffer, place: usize) -> WriteResult
         requires { self.now.shown ≡ shown_of self.now.signal.now self.now.shown.raw }
         ensures { OnOk result (text.new ≡ text.old ++ named_record_line place self.now.signal.now
-            (raw_text (names_in self.now.parameters.now) (self.now.signal.now, names_in self.now.values.now) self.now.shown.raw)) }
+            (raw_text (names_in self.now.parameters.now)
+            (self.now.signal.now, names_in self.now.values.now) self.now.shown.raw)) }
     {
         text.word("  ")?;
         text.word(self.signal.label().as_str())?;
@@ -146,7 +149,8 @@ fn write_single(
     requires at { HoldsAt (λ s. s ≡ signal.now) layout.now.signals i }
     requires bytes { layout.now.length ≤ length bytes.now }
     ensures { OnOk result (text.new ≡ text.old ++ (if stands_once (length bytes.now) signal.now
-        then named_signal_line signal.now (raw_text (names_in parameters.now) (signal.now, names_in values.now) (raw_of bytes.now signal.now))
+        then named_signal_line signal.now (raw_text (names_in parameters.now) (signal.now, names_in values.now)
+        (raw_of bytes.now signal.now))
         else [])) }
 {
     if stands_once(signal, bytes.len()) {
@@ -177,7 +181,8 @@ fn write_signals(
     requires names { length values.now ≡ length signals.now }
     requires bytes { layout.now.length ≤ length bytes.now }
     ensures { OnOk result (text.new ≡ text.old
-        ++ named_signal_lines (names_in parameters.now) (named_single_signals (length bytes.now) (named_by values.now signals.now)) bytes.now) }
+        ++ named_signal_lines (names_in parameters.now)
+        (named_single_signals (length bytes.now) (named_by values.now signals.now)) bytes.now) }
 {
     for (place, signal) in signals.iter().enumerate() {
         write_single(
@@ -237,7 +242,8 @@ pub(crate) fn write_named(
     requires names { length names.values.now ≡ length group.now.signals.items }
     requires bytes { layout.now.length ≤ length bytes.now }
     ensures { OnOk result (text.new ≡ text.old
-        ++ named_lines (names_in names.entry.parameters.now) (named_by names.entry.values.now group.now.signals.items) group.now bytes.now) }
+        ++ named_lines (names_in names.entry.parameters.now)
+        (named_by names.entry.values.now group.now.signals.items) group.now bytes.now) }
 {
     write_signals(
         text,

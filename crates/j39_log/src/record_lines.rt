@@ -82,7 +82,8 @@ pub(crate) trait RecordWriter {
         requires signals { at.layout.now.signals ≡ at.signals.now }
         requires fits { fits self.now at.signals.now }
         requires inside { All (IsInside (length at.bytes.now)) (record_signals at.behind at.signals.now) }
-        ensures { let r = at.entry in OnOk result (text.new ≡ text.old ++ lines self.now r.signals.now r.bytes.now r.place r.behind) };
+        ensures { let r = at.entry in OnOk result
+            (text.new ≡ text.old ++ lines self.now r.signals.now r.bytes.now r.place r.behind) };
 }
 
 /// Writes records where the plan has no names.
@@ -122,7 +123,8 @@ fn write_all_records<R: RecordWriter>(
     requires fits { R.fits writer.now group.now.signals.items }
     requires every { group.now.every ≡ Some every }
     ensures { OnOk result (text.new ≡ text.old
-        ++ lines_of_records (R.lines writer.now group.now.signals.items bytes.now) every (record_count group.now (length bytes.now))) }
+        ++ lines_of_records (R.lines writer.now group.now.signals.items bytes.now) every
+        (record_count group.now (length bytes.now))) }
 {
     let signals = group.signals.as_slice();
     let count = group.record_count(bytes.len());

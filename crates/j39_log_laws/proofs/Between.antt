@@ -263,7 +263,8 @@ module _ (plan : Plan) (distinct : AreNamesDistinct (units_of plan)) (own : Have
       let (known, more) = none_refuses plan w (Ask u) allowed in
       let held = (w.stations u).address in
       absurd (true≢false (sym (are_reported u (not-false _ known) held (below u) (asking_items (said_by (unit_at (units_of plan) u) (claim_of held)))
-      (asking_below (unit_at (units_of plan) u) (claim_of held) (item_below held (stated.standing.1 u))) after log f sent (ap (λ (x : World). x.frames) e)) ∙ other))
+      (asking_below (unit_at (units_of plan) u) (claim_of held) (item_below held (stated.standing.1 u))) after log f sent
+      (ap (λ (x : World). x.frames) e)) ∙ other))
 
   give : (u v : ℕ) → is_unit plan v ≡ true → (list : List Item) (after : World) → GivenFrom (units_of plan) w u v list after → Goes (Give u v) after
   give u v unit [] after never log f sent other = absurd never

@@ -180,7 +180,11 @@ module _ (plan : Plan) (quiet : plan.live ≡ false) where
     -- where nothing is undelivered who holds an address is an end
     is_end : ((s t : ℕ) → w.claims s t ≡ []) → (u : ℕ) → IsHolding w.stations u → IsEnd w u
     is_end heard u holding =
-        record { holding = holding; unclaimed = λ v a is claim. nothing_there a (subst (λ (xs : List Item). Contains xs (AddressClaimed (Claim a))) (heard v u) claim) }
+        record {
+          holding = holding;
+          unclaimed = λ v a is claim. nothing_there a
+              (subst (λ (xs : List Item). Contains xs (AddressClaimed (Claim a))) (heard v u) claim);
+        }
       where
         nothing_there : (a : ℕ) → Contains [] (AddressClaimed (Claim a)) → ⊥
         nothing_there a (k, inside, at) = absurd (omega (arith, inside))

@@ -222,7 +222,8 @@ module _ (plan : Plan) (distinct : AreNamesDistinct (units_of plan)) (own : Have
             let before : now x ≡ w.stations x = changed_elsewhere w.stations u (start u) x other in
             other_unit u unit held source now (without_lists_to u w.claims) items (first_below (unit_at units u) less) log e x a other claims on
             (sym (ap (λ (s : ClaimState). s.on) before) ∙ on) (sym (ap (λ (s : ClaimState). s.address) before) ∙ address)
-            (λ y claim. subst (λ (xs : List Item). Contains xs (AddressClaimed (Claim a))) (sym (cond-false (eqb x u) [] (w.claims y x) (ne_eqb x u other))) claim)
+            (λ y claim. subst (λ (xs : List Item). Contains xs (AddressClaimed (Claim a)))
+            (sym (cond-false (eqb x u) [] (w.claims y x) (ne_eqb x u other))) claim)
       ]
 
   down_reports : (u : ℕ) → FramesReportHolders plan (switched_off w u)
@@ -234,10 +235,15 @@ module _ (plan : Plan) (distinct : AreNamesDistinct (units_of plan)) (own : Have
             absurd (true≢false (sym on ∙ here))
         | inr other ↦
             let before : changed w.stations u off x ≡ w.stations x = changed_elsewhere w.stations u off x other in
-            elim (inv.are_reported log e x a claims (sym (ap (λ (s : ClaimState). s.on) before) ∙ on) (sym (ap (λ (s : ClaimState). s.address) before) ∙ address)) [
+            elim (inv.are_reported log e x a claims (sym (ap (λ (s : ClaimState). s.on) before) ∙ on)
+            (sym (ap (λ (s : ClaimState). s.address) before) ∙ address)) [
               | inl holds ↦ inl holds
               | inr (y, claim) ↦
-                  inr (y, subst (λ (xs : List Item). Contains xs (AddressClaimed (Claim a))) (sym (cond-false (eqb x u) [] (w.claims y x) (ne_eqb x u other))) claim)
+                  inr (
+                    y,
+                    subst (λ (xs : List Item). Contains xs (AddressClaimed (Claim a)))
+                        (sym (cond-false (eqb x u) [] (w.claims y x) (ne_eqb x u other))) claim,
+                  )
             ]
       ]
 
@@ -256,7 +262,8 @@ module _ (plan : Plan) (distinct : AreNamesDistinct (units_of plan)) (own : Have
             let here : held ≡ Some a = ap (λ (k : ℕ). (w.stations k).address) (sym same) ∙ address in
             let s = split sent_of log w.frames (map (frame_of (name u) held) items) e in
             let frames : map sent_of s.1 ≡ frame_of (name u) held Request ∷ frame_of (name u) held (AddressClaimed (Claim a)) ∷ [] =
-            s.4 ∙ ap (map (frame_of (name u) held)) (asking_said (unit_at units u) (claim_of held) (ap (λ (k : ℕ). (unit_at units k).claims) (sym same) ∙ claims))
+            s.4 ∙ ap (map (frame_of (name u) held)) (asking_said (unit_at units u) (claim_of held)
+            (ap (λ (k : ℕ). (unit_at units k).claims) (sym same) ∙ claims))
             ∙ ap (λ (o : Option ℕ). frame_of (name u) held Request ∷ frame_of (name u) held (AddressClaimed (claim_of o)) ∷ []) here in
             inl (subst (λ (k : ℕ). HoldsByFrames log (name k) a) (sym same)
             (subst (λ (l : List Frame). HoldsByFrames l (name u) a) (sym s.2)
@@ -301,7 +308,8 @@ module _ (plan : Plan) (distinct : AreNamesDistinct (units_of plan)) (own : Have
     ]
 
     -- the unit that heard, which claims
-    itself : (unit_at units v).claims ≡ true → (log : List Frame) → map sent_of log ≡ w.frames ++ map (frame_of (name v) held) items → (a : ℕ) → new.address ≡ Some a
+    itself : (unit_at units v).claims ≡ true → (log : List Frame) → map sent_of log ≡ w.frames ++ map (frame_of (name v) held) items → (a : ℕ)
+        → new.address ≡ Some a
         → HoldsByFrames log (name v) a ⊎ IsStillToHear (sent_to_others now mid v items) v a
     itself claims log e a address = elim (turn (unit_at units v) (w.stations v) (name u) item says new (MatchBool-at_true _ _ claims reacts)) [
       | inl silent ↦
@@ -331,7 +339,8 @@ module _ (plan : Plan) (distinct : AreNamesDistinct (units_of plan)) (own : Have
           let before : now x ≡ w.stations x = changed_elsewhere w.stations v new x other in
           other_unit v unit_v held source now mid items items_below log e x a other claims on
           (sym (ap (λ (s : ClaimState). s.on) before) ∙ on) (sym (ap (λ (s : ClaimState). s.address) before) ∙ address)
-          (λ y claim. subst (λ (xs : List Item). Contains xs (AddressClaimed (Claim a))) (sym (pair_elsewhere w.claims u v rest y x (λ _ same. other same))) claim)
+          (λ y claim. subst (λ (xs : List Item). Contains xs (AddressClaimed (Claim a)))
+          (sym (pair_elsewhere w.claims u v rest y x (λ _ same. other same))) claim)
     ]
 
   -- ---- each step

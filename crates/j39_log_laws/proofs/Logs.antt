@@ -117,7 +117,8 @@ module _ (name : ℕ) (range : name < 2 ^ 64) (held : Option ℕ) (source : sour
   same_claim Request a = inr (λ e. cc)
 
   pub others : (log more : List Frame) (items : List Item) (other a : ℕ) → other ≢ name → AllByRecursion IsItemInRange items
-      → map sent_of more ≡ map (frame_of name held) items → HoldsByFrames log other a → HoldsByFrames (log ++ more) other a ⊎ Contains items (AddressClaimed (Claim a))
+      → map sent_of more ≡ map (frame_of name held) items → HoldsByFrames log other a → HoldsByFrames (log ++ more) other a
+      ⊎ Contains items (AddressClaimed (Claim a))
   others log [] [] other a apart all e holds = inl (subst (λ (l : List Frame). HoldsByFrames l other a) (sym (append-nil log)) holds)
   others log [] (item ∷ items) other a apart all e holds = absurd (cc e)
   others log (f ∷ more) [] other a apart all e holds = absurd (cc e)

@@ -97,7 +97,8 @@ module _ (plan : Plan) (w : World) (stated : AreReported plan w) where
       → (flow : Flow) × (o ≡ Some flow) × IsInFrame flow bytes f
   begun k bytes None allowed after never log f sent other = absurd never
   begun k bytes (Some flow) allowed after e log f sent other =
-      let (sendable, (on, (heard, (address, (free, (long, (taken, rest))))))) = none_hold (begin_refusals plan.live (count_of plan) w (Some flow) bytes) allowed in
+      let (sendable, (on, (heard, (address, (free, (long, (taken, rest))))))) = none_hold
+      (begin_refusals plan.live (count_of plan) w (Some flow) bytes) allowed in
       let frame = the_frame w after log f sent (first_frame w.stations flow bytes) (ap (λ (x : World). x.frames) e) in
       let whole = whole_message flow bytes f frame other in
       (flow, refl, record { payload = whole.0; allowed = not-false _ long; selected = not-false _ taken; short = whole.1 })
@@ -107,7 +108,8 @@ module _ (plan : Plan) (w : World) (stated : AreReported plan w) where
       → (flow : Flow) × (o ≡ Some flow) × IsInFrame flow bytes f
   sent_alone k bytes None allowed after never log f sent = absurd never
   sent_alone k bytes (Some flow) allowed after e log f sent =
-      let (sendable, (on, (heard, (address, (free, (long, (taken, rest))))))) = none_hold (send_refusals plan.live (count_of plan) w (Some flow) bytes) allowed in
+      let (sendable, (on, (heard, (address, (free, (long, (taken, rest))))))) = none_hold
+      (send_refusals plan.live (count_of plan) w (Some flow) bytes) allowed in
       let d : ℕ = destination_of w.stations flow.to in
       let s : ℕ = address_of w.stations flow.sender in
       let frame = the_frame w after log f sent (short_frame d s flow bytes) (ap (λ (x : World). x.frames) e) in

@@ -240,6 +240,7 @@ module _ (plan vehicle : Plan) (is : IsVehicleOf plan vehicle) (apart : AreDisti
       (subst (AllByRecursion (ReportsUnit vehicle)) (sym sent_so) (named step after follows).each) in
       let are_reported : ReportAll (IsOfVehicle plan vehicle) (frames_of (untimed frames)) =
       subst (ReportAll (IsOfVehicle plan vehicle)) (sym (frames_untimed frames)) (report_so frames all) in
-      let there = same_report (IsOfVehicle plan vehicle) plan vehicle (report_alike plan vehicle is apart) (untimed frames) are_reported front _ _ text report in
+      let there = same_report (IsOfVehicle plan vehicle) plan vehicle (report_alike plan vehicle is apart)
+      (untimed frames) are_reported front _ _ text report in
       let (k, other, begun, found, looks) = stated step after log f front group flow text follows sent there in
       (k, other, begun, found, looks_so group k other looks)

@@ -12,7 +12,8 @@ use Rattle.j39_network.specs.declared.plan.request_plan.RequestPlan.{RequestPlan
 use Rattle.j39_network.specs.declared.plan.to.To.{To}
 use Rattle.j39_network.specs.declared.plan.to.To.TheVariants.{All, One}
 use Rattle.j39_network.specs.Kinds.{kind_of_name, MayBeOne, may_be_one}
-use Rattle.j39_network.specs.Serving.{Meets, Serves, IsServed, IsAskedFor, is_to_one, is_to, have_same_receiver, is_from, is_reached, meets, serves, is_served, is_asked_for}
+use Rattle.j39_network.specs.Serving.{Meets, Serves, IsServed, IsAskedFor, is_to_one, is_to, have_same_receiver, is_from, is_reached, meets, serves, is_served}
+use Rattle.j39_network.specs.Serving.{is_asked_for}
 
 -- ---- units
 

@@ -70,7 +70,8 @@ pub struct Plan {
     pub ghost flow_receivers: { All (λ f. (r : ℕ) → f.to ≡ One r → r < length units.items) flows.items },
     pub ghost need_units: { All (λ d. d.unit < length units.items) needs.items },
     pub ghost need_groups: { All (λ d. d.group < length groups.items) needs.items },
-    pub ghost need_signals: { All (λ d. (s : ℕ) → d.signal ≡ Some s → s < signal_count groups.items d.group) needs.items },
+    pub ghost need_signals: { All (λ d. (s : ℕ) → d.signal ≡ Some s
+        → s < signal_count groups.items d.group) needs.items },
     pub ghost need_senders: { All (λ d. (u : ℕ) → d.from ≡ Some u → u < length units.items) needs.items },
     pub ghost request_groups: { All (λ d. d.group < length groups.items) requests.items },
     pub ghost request_senders: { All (λ d. d.sender < length units.items) requests.items },

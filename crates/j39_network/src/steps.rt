@@ -5,8 +5,8 @@
 pub enum Step {
     /// The unit is switched on and claims the address that it prefers.
     Up(usize),
-    /// The unit is switched off. What was sent to it is gone, and what it reported of addresses is heard later; on a live
-    /// bus all that it sent of messages is gone too.
+    /// The unit is switched off. What was sent to it is gone, and what it reported of addresses is heard later; on a
+    /// live bus all that it sent of messages is gone too.
     Down(usize),
     /// The second unit hears the oldest claim or request of the first that it has not heard yet.
     Give(usize, usize),

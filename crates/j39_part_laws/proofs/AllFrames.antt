@@ -29,7 +29,8 @@ use Rattle.j39_part_laws.proofs.FlowLoads.{flow_alike, flows_alike, FramesAlike,
 use Rattle.j39_part_laws.proofs.Places.{no_value, value_at}
 use Rattle.j39_part_laws.proofs.PlanFrames.{there_too, unit_at_place}
 use Rattle.j39_part_laws.proofs.Sublists.{sub_of}
-use Rattle.j39_part_laws.proofs.UnitLoads.{announcements_there, asked_there, broadcasts_there, packets_there, request_there, RequestsAlike, unit_there, UnitsAlike}
+use Rattle.j39_part_laws.proofs.UnitLoads.{announcements_there, asked_there, broadcasts_there, packets_there, request_there, RequestsAlike, unit_there}
+use Rattle.j39_part_laws.proofs.UnitLoads.{UnitsAlike}
 
 -- ---- some of two lists
 
@@ -143,14 +144,16 @@ module _ (at : Places) (part whole : Plan) (is : IsPartAt at part whole) (good :
   ks = loads_of timing whole stays
 
   pub flows_some : AreSome at.flow (LoadsAlike at) ls ks
-  flows_some = some_map (IsFlowThere at) (LoadsAlike at) (load_of_flow timing part reported) (load_of_flow timing whole stays) at.flow part.flows.items whole.flows.items
+  flows_some = some_map (IsFlowThere at) (LoadsAlike at) (load_of_flow timing part reported)
+      (load_of_flow timing whole stays) at.flow part.flows.items whole.flows.items
       is.flows (flow_alike at part whole is good stays reported decides reports_who timing)
 
   pub flows_sub : IsSub (LoadsAlike at) ls ks
   flows_sub = sub_of (LoadsAlike at) ls ks at.flow flows_some.rises flows_some.each
 
   pub requests_some : AreSome at.request (RequestsAlike at) (request_loads_of timing part reported) (request_loads_of timing whole stays)
-  requests_some = some_map (IsRequestThere at) (RequestsAlike at) (load_of_request timing part.units.items reported) (load_of_request timing whole.units.items stays)
+  requests_some = some_map (IsRequestThere at) (RequestsAlike at) (load_of_request timing part.units.items reported)
+      (load_of_request timing whole.units.items stays)
       at.request part.requests.items whole.requests.items is.requests (request_there at part whole is stays reported decides reports_who timing)
 
   units_from : (xs ys : List (Option FlowLoad)) → IsSub (LoadsAlike at) xs ys → ((u : ℕ) → All HasPackets (broadcasts_by u ys))
@@ -271,13 +274,17 @@ module _ (at : Places) (part whole : Plan) (is : IsPartAt at part whole) (good :
       let fw = length-map ks frames_of_flow in
       let sw = length-map ks singles_of_flow in
       let pw = length-map kus packets_of_unit in
-      let one = joined_back at.flow behind_place (length (map frames_of_flow ls)) (length (map frames_of_flow ks)) (2 * length ls + (length lus + u)) (omega (arith, f)) in
+      let one = joined_back at.flow behind_place (length (map frames_of_flow ls)) (length (map frames_of_flow ks)) (2 * length ls + (length lus + u))
+      (omega (arith, f)) in
       let rest : 2 * length ls + (length lus + u) - length (map frames_of_flow ls) ≡ length ls + (length lus + u) = omega (arith, f) in
-      let two = joined_back at.flow units_place (length (map singles_of_flow ls)) (length (map singles_of_flow ks)) (length ls + (length lus + u)) (omega (arith, s)) in
+      let two = joined_back at.flow units_place (length (map singles_of_flow ls)) (length (map singles_of_flow ks)) (length ls + (length lus + u))
+      (omega (arith, s)) in
       let next : length ls + (length lus + u) - length (map singles_of_flow ls) ≡ length lus + u = omega (arith, s) in
-      let three = joined_back at.unit requests_place (length (map packets_of_unit lus)) (length (map packets_of_unit kus)) (length lus + u) (omega (arith, p)) in
+      let three = joined_back at.unit requests_place (length (map packets_of_unit lus)) (length (map packets_of_unit kus)) (length lus + u)
+      (omega (arith, p)) in
       let last : length lus + u - length (map packets_of_unit lus) ≡ u = omega (arith, p) in
-      let four = joined_front at.unit at.request (length (map announcements_of_unit lus)) (length (map announcements_of_unit kus)) u (omega (arith, a, below)) in
+      let four = joined_front at.unit at.request (length (map announcements_of_unit lus)) (length (map announcements_of_unit kus)) u
+      (omega (arith, a, below)) in
       one ∙ ap (λ k. length (map frames_of_flow ks) + behind_place k) rest ∙ ap (λ k. length (map frames_of_flow ks) + k) two
       ∙ ap (λ k. length (map frames_of_flow ks) + (length (map singles_of_flow ks) + units_place k)) next
       ∙ ap (λ k. length (map frames_of_flow ks) + (length (map singles_of_flow ks) + k)) three
@@ -285,12 +292,14 @@ module _ (at : Places) (part whole : Plan) (is : IsPartAt at part whole) (good :
       ∙ ap (λ k. length (map frames_of_flow ks) + (length (map singles_of_flow ks) + (length (map packets_of_unit kus) + k))) four
       ∙ omega (arith, fw, sw, pw)
 
-  pub packets_at : (u : ℕ) (l : UnitLoad) → slice_get lus u ≡ Some (Some l) → slice_get (frames_asked (asked_of timing part reported)) (2 * length ls + u) ≡ Some (Some l.packets)
+  pub packets_at : (u : ℕ) (l : UnitLoad) → slice_get lus u ≡ Some (Some l) → slice_get (frames_asked (asked_of timing part reported))
+      (2 * length ls + u) ≡ Some (Some l.packets)
   packets_at u l its =
       let f = length-map ls frames_of_flow in
       let s = length-map ls singles_of_flow in
       let back = map announcements_of_unit lus ++ map frames_of_request lrs in
-      let read = append_read (map frames_of_flow ls) (map singles_of_flow ls ++ (map packets_of_unit lus ++ back)) (length (map singles_of_flow ls) + u) (Some l.packets)
+      let read = append_read (map frames_of_flow ls) (map singles_of_flow ls ++ (map packets_of_unit lus ++ back)) (length (map singles_of_flow ls) + u)
+      (Some l.packets)
       (append_read (map singles_of_flow ls) (map packets_of_unit lus ++ back) u (Some l.packets)
       (append_front (map packets_of_unit lus) back u (Some l.packets) (slice_get-map packets_of_unit lus u ∙ ap (option_map packets_of_unit) its))) in
       subst (λ k. slice_get (frames_asked (asked_of timing part reported)) k ≡ Some (Some l.packets))

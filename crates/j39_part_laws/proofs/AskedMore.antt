@@ -1,5 +1,6 @@
 -- A flow of which more is asked in a part is asked for more in the whole.
-use Rattle.std.proofs.Common.{◌≡◌, ℕ, ◌+◌, ◌*◌, ◌≤◌, ◌==◌, not, Bool, true, false, if◌then◌else◌, List, [], ◌∷◌, Some, None, inl, inr, refl, sym, ap, ◌∙◌, arith}
+use Rattle.std.proofs.Common.{◌≡◌, ℕ, ◌+◌, ◌*◌, ◌≤◌, ◌==◌, not, Bool, true, false, if◌then◌else◌, List, [], ◌∷◌, Some, None, inl, inr, refl, sym, ap, ◌∙◌}
+use Rattle.std.proofs.Common.{arith}
 use Rattle.std.proofs.lemmas.Bool.{and_from, and_parts, cases_lt, cases_order, eq-eqb, eqb-false, eqb-true, lt-ltb, ltb-true, ne_eqb, not-true}
 use Rattle.std.proofs.lemmas.Option.{none-some}
 use Rattle.j39_network.specs.Serving.{is_reached, serves}
@@ -95,4 +96,5 @@ module _ (at : Places) (part whole : Plan) (is : IsPartAt at part whole) where
       sym (answering_more part.requests.items f asked.pace asked.answers asked.paced) ∙ too_often in
       let sub = periods_there f g sent in
       answering_more whole.requests.items g asked.pace (sent.on_request ∙ asked.answers) (sent.pace ∙ asked.paced)
-      ∙ more_of_sub asked.pace.period periods (asking_periods whole.requests.items g) sub (some_whole f part.requests.items) (some_whole g whole.requests.items) more
+      ∙ more_of_sub asked.pace.period periods (asking_periods whole.requests.items g) sub (some_whole f part.requests.items)
+      (some_whole g whole.requests.items) more

@@ -107,7 +107,8 @@ module _ (unit : ℕ → ℕ) (Twins : ℕ → ℕ → Type 0) (one_twin : (m n 
           rw (eq-eqb timing.unplanned 0 neither, eq-eqb unplanned 0 none) are.last
       either (inr some) = rw (ne_eqb unplanned 0 some) (at_most (timing.unplanned == 0))
 
-  module _ (timing : Timing) (unplanned : ℕ) (range : unplanned ≤ 1000) (busier : timing.unplanned ≤ unplanned) (all others : List (Option FlowFrames)) (place : ℕ → ℕ)
+  module _ (timing : Timing) (unplanned : ℕ) (range : unplanned ≤ 1000) (busier : timing.unplanned ≤ unplanned) (all others : List (Option FlowFrames))
+      (place : ℕ → ℕ)
       (are : AreSome place (AreFramesWhere unit Twins Always) all others) where
     abbrev busy : Timing
     busy = counting timing unplanned range
@@ -245,7 +246,8 @@ module _ (unit : ℕ → ℕ) (Twins : ℕ → ℕ → Type 0) (one_twin : (m n 
         go wait here.least_wait bound fits
       where
         go : (w : Option ℕ)
-            → IsWaitWith timing (demands_of all) (streams_with timing (leasts_of all) all (with_unplanned timing ends own) here.level) (blocking_with timing own) w
+            → IsWaitWith timing (demands_of all) (streams_with timing (leasts_of all) all (with_unplanned timing ends own) here.level)
+            (blocking_with timing own) w
             → WaitNoLonger (demands_of all) (demands_of others) (blocking_with timing own) (blocking_with busy there)
             (streams_with timing (leasts_of all) all (with_unplanned timing ends own) here.level)
             (streams_with busy (leasts_of others) others (with_unplanned busy ends there) whole.level)
@@ -258,7 +260,8 @@ module _ (unit : ℕ → ℕ) (Twins : ℕ → ℕ → Type 0) (one_twin : (m n 
             absurd (omega (arith, above, short))
         go (Some a) is_a bound fits = (a, refl, bound.least a b is_a.2 fits.1)
 
-    pub buffered_no_longer : (ends : ℕ) (x y : Option FlowFrames) → AreFramesWhere unit Twins Always x y → (wait : Option ℕ) (b : ℕ) → IsBufferedFor timing ends all x wait
+    pub buffered_no_longer : (ends : ℕ) (x y : Option FlowFrames) → AreFramesWhere unit Twins Always x y → (wait : Option ℕ) (b : ℕ)
+        → IsBufferedFor timing ends all x wait
         → IsBufferedFor busy ends others y (Some b) → (a : ℕ) × (wait ≡ Some a) × (a ≤ b)
     buffered_no_longer ends None y alike wait b here whole = (0, here, omega arith)
     buffered_no_longer ends (Some x) None alike wait b here whole = absurd alike

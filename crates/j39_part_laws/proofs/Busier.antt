@@ -119,8 +119,10 @@ module _ (timing : Timing) (unplanned : ℕ) (range : unplanned ≤ 1000) where
             ∙ same_for pace (askers_of plan.requests.items flow) (flow_load timing plan.units.items stays flow pace group))
 
         go : (pace : Option Pace)
-            → option_and_then (λ p. option_map (asked_load busy plan.requests.items plan.units.items stays flow p) (slice_get plan.groups.items flow.group)) pace
-            ≡ option_and_then (λ p. option_map (asked_load timing plan.requests.items plan.units.items stays flow p) (slice_get plan.groups.items flow.group)) pace
+            → option_and_then (λ p. option_map (asked_load busy plan.requests.items plan.units.items stays flow p)
+            (slice_get plan.groups.items flow.group)) pace
+            ≡ option_and_then (λ p. option_map (asked_load timing plan.requests.items plan.units.items stays flow p)
+            (slice_get plan.groups.items flow.group)) pace
         go None = refl
         go (Some pace) = by pace (slice_get plan.groups.items flow.group)
 

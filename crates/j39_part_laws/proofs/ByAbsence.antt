@@ -46,7 +46,8 @@ module _ (at : Places) (whole : Plan) (only : (finding : Finding) → Holds whol
 pub only_absence_stays : (part whole : Plan) → IsPlanPart part whole → OnlyAbsenceStays part whole
 only_absence_stays part whole (at, is) here there are are_there only = record {
   plans = λ finding found. by_absence at whole only.plans finding (holds_there at part whole is finding found);
-  loads = λ finding found. by_load finding (are_found_there at part whole is (λ g bad. false≢true (only.plans (BadPgn g) bad)) here there are are_there finding found);
+  loads = λ finding found. by_load finding (are_found_there at part whole is
+      (λ g bad. false≢true (only.plans (BadPgn g) bad)) here there are are_there finding found);
 }
   where
     by_load : (finding : LoadFinding) → IsFoundThere at part there finding → load_comes_by_absence finding ≡ true

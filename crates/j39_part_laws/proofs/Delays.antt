@@ -11,9 +11,11 @@ use Rattle.j39_search.specs.ListPlaces.{ValueAt}
 use Rattle.j39_load.specs.declared.frames.flow_frames.FlowFrames.{FlowFrames}
 use Rattle.j39_load.specs.declared.waits.delay.Delay.{Delay}
 use Rattle.j39_load.specs.declared.waits.delay.Delay.TheVariants.{Beyond, Late, Long, Whole, Within}
-use Rattle.j39_load.specs.AnyQueues.{AreBufferingDelays, buffered, buffered_for, Buffering, IsBufferedFor, IsBuffering, IsQueueGroupWait, keep_order, later_frames}
+use Rattle.j39_load.specs.AnyQueues.{AreBufferingDelays, buffered, buffered_for, Buffering, IsBufferedFor, IsBuffering, IsQueueGroupWait, keep_order}
+use Rattle.j39_load.specs.AnyQueues.{later_frames}
 use Rattle.j39_load.specs.AnyQueues.{least_unbounded, leasts_of, may_be_passed, unbounded_at}
-use Rattle.j39_load.specs.Delays.{any_delay, blocking_of, HasNoneWithin, IsDelayWithin, IsFrameDelay, IsInTime, IsShortDelay, IsWaitIn, IsWaitOf, judged, streams_before}
+use Rattle.j39_load.specs.Delays.{any_delay, blocking_of, HasNoneWithin, IsDelayWithin, IsFrameDelay, IsInTime, IsShortDelay, IsWaitIn, IsWaitOf, judged}
+use Rattle.j39_load.specs.Delays.{streams_before}
 use Rattle.j39_load.specs.Demands.{demands_of}
 use Rattle.j39_load.specs.LineLists.{lines_of_each}
 use Rattle.j39_load.specs.Loads.{longest_wait}
@@ -35,7 +37,8 @@ same_length waits all = one_each (λ (p : ℕ) (x : Option FlowFrames). option_m
 module _ (unit : ℕ → ℕ) (Twins : ℕ → ℕ → Type 0) (one_twin : (m n o : ℕ) → Twins m n → Twins m o → n ≡ o)
     (timing : Timing) (unplanned : ℕ) (range : unplanned ≤ 1000) (busier : timing.unplanned ≤ unplanned) (all others : List (Option FlowFrames)) (place : ℕ → ℕ)
     (are : AreSome place (AreFramesWhere unit Twins (Always unit Twins one_twin)) all others)
-    (ends : ℕ) (vs ws : List (Option ℕ)) (here : AreBufferingDelays timing ends all vs) (whole : AreBufferingDelays (counting timing unplanned range) ends others ws) where
+    (ends : ℕ) (vs ws : List (Option ℕ)) (here : AreBufferingDelays timing ends all vs)
+    (whole : AreBufferingDelays (counting timing unplanned range) ends others ws) where
   abbrev busy : Timing
   busy = counting timing unplanned range
 
@@ -53,11 +56,13 @@ module _ (unit : ℕ → ℕ) (Twins : ℕ → ℕ → Type 0) (one_twin : (m n 
       let longer = whole.each (place j) (slice_get_within others (place j) there.value there.value_is) in
       buffered_no_longer unit Twins one_twin timing unplanned range busier all others place are ends x there.value there.meets (slice_index_or vs j None) b
       (subst (λ o. IsBufferedFor timing ends all o (slice_index_or vs j None)) is_x wait)
-      (subst (λ w. IsBufferedFor busy ends others there.value w) known (subst (λ o. IsBufferedFor busy ends others o (slice_index_or ws (place j) None)) is_y longer))
+      (subst (λ w. IsBufferedFor busy ends others there.value w) known
+      (subst (λ o. IsBufferedFor busy ends others o (slice_index_or ws (place j) None)) is_y longer))
 
   -- ---- those of which no wait is known
 
-  unbounded_there : (j : ℕ) (x y : Option FlowFrames) → slice_get all j ≡ Some x → Alike x y → IsSub IsNoLess (unbounded_at vs j x) (unbounded_at ws (place j) y)
+  unbounded_there : (j : ℕ) (x y : Option FlowFrames) → slice_get all j ≡ Some x → Alike x y
+      → IsSub IsNoLess (unbounded_at vs j x) (unbounded_at ws (place j) y)
   unbounded_there j None y at alike = tt
   unbounded_there j (Some x) None at alike = absurd alike
   unbounded_there j (Some x) (Some y) at alike = go (slice_index_or vs j None) (slice_index_or ws (place j) None) refl refl
@@ -236,7 +241,8 @@ module _ (unit : ℕ → ℕ) (Twins : ℕ → ℕ → Type 0) (one_twin : (m n 
           ∙ ap Some (buffered_read waits xs j below ∙ ap (option_map (later_frames (buffered_for waits j))) (get_or_from_slice_get xs j (Some x) None its))
 
       bound : Bound
-      bound = waits_there unit Twins one_twin timing unplanned range busier own there are_own Goes (λ y before. inl before) (buffered vs all) (buffered ws others)
+      bound = waits_there unit Twins one_twin timing unplanned range busier own there are_own Goes (λ y before. inl before) (buffered vs all)
+          (buffered ws others)
           place buffered_some i (later_frames (buffered_for vs i) own) (later_frames (buffered_for ws (place i)) there) (buffered_at vs all i own at_own)
           (buffered_at ws others (place i) there at_there) (later_alike (buffered_for vs i) (buffered_for ws (place i)) own there are_own) refl refl refl
           (jitter_there i own there at_own at_there own_late (inr ordered))
@@ -260,13 +266,15 @@ module _ (unit : ℕ → ℕ) (Twins : ℕ → ℕ → Type 0) (one_twin : (m n 
           let within = room.within in
           never w (record { demand_fits = omega (arith, needs, fits); within = omega (arith, late, within, more) })
 
-      shorter : (most high a b : ℕ) → IsDelayWithin timing (buffered vs all) i own most a → IsDelayWithin busy (buffered ws others) (place i) there high b → a ≤ b
+      shorter : (most high a b : ℕ) → IsDelayWithin timing (buffered vs all) i own most a → IsDelayWithin busy (buffered ws others) (place i) there high b
+          → a ≤ b
       shorter most high a b (v, fits, none, is_a) (w, room, least_w, is_b) =
           let less = its_bound.least v w none room.demand_fits in
           let late = same_delay w in
           omega (arith, is_a, is_b, less, late)
 
-      short_no_later : (limit : ℕ) (d e : Delay) → IsShortDelay timing (buffered vs all) i own limit d → IsShortDelay busy (buffered ws others) (place i) there limit e
+      short_no_later : (limit : ℕ) (d e : Delay) → IsShortDelay timing (buffered vs all) i own limit d → IsShortDelay busy (buffered ws others)
+          (place i) there limit e
           → IsNoLater (Some d) (Some e)
       short_no_later limit (Long n) e here reported = absurd here
       short_no_later limit (Whole n) e here reported = absurd here
@@ -309,7 +317,8 @@ module _ (unit : ℕ → ℕ) (Twins : ℕ → ℕ → Type 0) (one_twin : (m n 
             ∙ subst (λ o. option_map_or (λ (k : ℕ). nat_lt k n) o false ≡ false) is_q none))
       ]
 
-  judged_no_later : (x y : FlowFrames) → AreAtOnePace x.stream y.stream → (limit p q : ℕ) → p ≤ q → IsNoLater (Some (judged x limit p)) (Some (judged y limit q))
+  judged_no_later : (x y : FlowFrames) → AreAtOnePace x.stream y.stream → (limit p q : ℕ) → p ≤ q
+      → IsNoLater (Some (judged x limit p)) (Some (judged y limit q))
   judged_no_later x y same limit p q less = elim (cases_Bool (nat_le q limit)) [
     | inl within ↦
         let low = leb-true q limit within in
@@ -325,7 +334,8 @@ module _ (unit : ℕ → ℕ) (Twins : ℕ → ℕ → Type 0) (one_twin : (m n 
     ]
   ]
     where
-      either : (t : Bool) → (a : ℕ) × ((Some (if t then Within p else Beyond p) ≡ Some (Within a)) ⊎ (Some (if t then Within p else Beyond p) ≡ Some (Beyond a))) × (a ≤ q)
+      either : (t : Bool) → (a : ℕ) × ((Some (if t then Within p else Beyond p) ≡ Some (Within a))
+          ⊎ (Some (if t then Within p else Beyond p) ≡ Some (Beyond a))) × (a ≤ q)
       either true = (p, inl refl, less)
       either false = (p, inr refl, less)
 

@@ -18,7 +18,8 @@ use Rattle.j39_load.specs.declared.waits.whole_time.WholeTime.{WholeTime}
 use Rattle.j39_load.specs.AnyQueues.{Buffering, IsWaitWith, keep_order, may_be_passed}
 use Rattle.j39_load.specs.Asked.{Asked, frames_asked}
 use Rattle.j39_load.specs.Delays.{AreFlowDelays, HasDelay, HasDelayBy, HasNoneWithin, IsDelayOf, IsDelayWithin, IsFrameDelay, IsInTime, IsShortDelay}
-use Rattle.j39_load.specs.Delays.{IsTurnBy, IsWaitIn, IsWaitOf, IsWholeTime, announcements_place, any_delay, blocking_of, known_turn, packets_place, streams_before}
+use Rattle.j39_load.specs.Delays.{IsTurnBy, IsWaitIn, IsWaitOf, IsWholeTime, announcements_place, any_delay, blocking_of, known_turn, packets_place}
+use Rattle.j39_load.specs.Delays.{streams_before}
 use Rattle.j39_load.specs.Delays.{whole_time}
 use Rattle.j39_load.specs.Demands.{demands_of}
 use Rattle.j39_timing.specs.Traffic.{delay_of}

@@ -61,7 +61,10 @@ module _ (at : Places) (part whole : Plan) (is : IsPartAt at part whole) where
       (λ sent there one label. one.label ∙ label ∙ sym same.label)
 
   to_one_there : (f h : FlowPlan) → IsFlowThere at f h → CannotGoToOne part.groups.items f → CannotGoToOne whole.groups.items h
-  to_one_there f h stands ((receiver, to), sent) = ((at.unit receiver, stands.to ∙ ap (to_in at) to), sent_there IsOneFrameToAll IsOneFrameToAll one_frame f h stands sent)
+  to_one_there f h stands ((receiver, to), sent) = (
+    (at.unit receiver, stands.to ∙ ap (to_in at) to),
+    sent_there IsOneFrameToAll IsOneFrameToAll one_frame f h stands sent,
+  )
 
   to_self_there : (f h : FlowPlan) → IsFlowThere at f h → GoesToItsSender f → GoesToItsSender h
   to_self_there f h stands to = stands.to ∙ ap (to_in at) to ∙ ap One (sym stands.sender)
@@ -117,7 +120,8 @@ module _ (at : Places) (part whole : Plan) (is : IsPartAt at part whole) where
       (λ g v same found. subst (ValueAt (λ h. v.pgn ≡ h.pgn) whole.groups.items) (sym other.group)
       (group_there (λ h. g.pgn ≡ h.pgn) (λ h. v.pgn ≡ h.pgn) (λ h w also number. same.pgn ∙ number ∙ sym also.pgn) s.group found)) r.group asked)
 
-  ask_the_same_there : (r s x y : RequestPlan) → IsRequestThere at r x → IsRequestThere at s y → AskTheSame part.groups.items r s → AskTheSame whole.groups.items x y
+  ask_the_same_there : (r s x y : RequestPlan) → IsRequestThere at r x → IsRequestThere at s y → AskTheSame part.groups.items r s
+      → AskTheSame whole.groups.items x y
   ask_the_same_there r s x y one other (number, sender, to) = (
     one_number_there r s x y one other number,
     one.sender ∙ ap at.unit sender ∙ sym other.sender,
@@ -135,7 +139,8 @@ module _ (at : Places) (part whole : Plan) (is : IsPartAt at part whole) where
   too_few_there : (n : ℕ) → Holds part (TooFewAddresses n) → (m : ℕ) × (n ≤ m) × Holds whole (TooFewAddresses m)
   too_few_there n ((m, many, sum), few) =
       let more = more_meet IsSame (NeedsPoolAddress part.keep_free) (NeedsPoolAddress whole.keep_free)
-      (λ x y same needs. subst (λ kept. NeedsPoolAddress kept y) is.keep_free (subst (NeedsPoolAddress part.keep_free) same needs)) (needs_or_not whole.keep_free)
+      (λ x y same needs. subst (λ kept. NeedsPoolAddress kept y) is.keep_free (subst (NeedsPoolAddress part.keep_free) same needs))
+      (needs_or_not whole.keep_free)
       part.units.items whole.units.items (sub_of_some at.unit IsSame part.units.items whole.units.items is.units) m many in
       let below = more.1 in
       let strangers = is.strangers in
@@ -150,7 +155,8 @@ module _ (at : Places) (part whole : Plan) (is : IsPartAt at part whole) where
       let there = is.flows.each f flow found.value_is in
       let alone = (stay_there at part whole is).alone in
       let sender = all_at (λ (h : FlowPlan). h.sender < length part.units.items) part.flows.items part.flow_senders f flow found.value_is in
-      let receiver = all_at (λ (h : FlowPlan). (r : ℕ) → h.to ≡ One r → r < length part.units.items) part.flows.items part.flow_receivers f flow found.value_is in
+      let receiver = all_at (λ (h : FlowPlan). (r : ℕ) → h.to ≡ One r
+      → r < length part.units.items) part.flows.items part.flow_receivers f flow found.value_is in
       record {
         value = there.value;
         value_is = there.value_is;

@@ -16,7 +16,8 @@ use Rattle.std.specs.Option.{option_map_or}
 use Rattle.std.proofs.lemmas.Bool.{and_from, and_parts, cases_Bool, eqb-true, false≢true, ne_eqb}
 use Rattle.std.proofs.Common.{zero, suc, ◌+◌, ◌-◌, ◌*◌, ◌^◌, ◌==◌, ◌&&◌, arith, true, false, inl, inr, nat_le, if◌then◌else◌, get_or}
 use Rattle.j39_load.specs.AnyQueues.{Buffering, IsBuffering}
-use Rattle.j39_load.specs.Asked.{announcements_of_unit, Asked, asked_of, frames_asked, frames_of_flow, frames_of_request, own_frames, packets_of_unit, singles_of_flow}
+use Rattle.j39_load.specs.Asked.{announcements_of_unit, Asked, asked_of, frames_asked, frames_of_flow, frames_of_request, own_frames, packets_of_unit}
+use Rattle.j39_load.specs.Asked.{singles_of_flow}
 use Rattle.j39_load.specs.Delays.{HasDelay, HasDelayBy, IsDelayOf, IsFrameDelay}
 use Rattle.j39_load.specs.LiveClaims.{last_claim, unplanned_end}
 use Rattle.j39_load.specs.FlowLoads.{load_of_flow, loads_of}
@@ -29,7 +30,8 @@ use Rattle.j39_load.specs.declared.loads.unit_load.UnitLoad.{UnitLoad}
 use Rattle.j39_load.specs.declared.waits.whole_time.WholeTime.{WholeTime}
 use Rattle.j39_load.specs.Broadcasts.{broadcast_from}
 use Rattle.j39_load.specs.declared.waits.turn.Turn.{Turn}
-use Rattle.j39_load.specs.Delays.{announcements_place, flow_turn, IsTurn, IsTurnBy, IsWaitIn, IsWholeTime, keeps_pace, keeps_up, known_turn, packets_place, longest_pause, own_time, packet_time}
+use Rattle.j39_load.specs.Delays.{announcements_place, flow_turn, IsTurn, IsTurnBy, IsWaitIn, IsWholeTime, keeps_pace, keeps_up, known_turn, packets_place}
+use Rattle.j39_load.specs.Delays.{longest_pause, own_time, packet_time}
 use Rattle.j39_load.specs.Loads.{frames_to_all}
 use Rattle.j39_part_laws.proofs.AllFrames.{announcements_at, announcements_place_there, packets_at, packets_place_there, unit_asks, units_some}
 use Rattle.j39_part_laws.proofs.Delays.{wait_in_no_later}
@@ -88,7 +90,8 @@ turn_within f g p q n a b k m some flows has packets first later =
 abbrev up_by : ℕ → Broadcast → Turn → Bool
 up_by n d u = if n == 0 then keeps_pace d u else (n == 1 && nat_le (u.time + d.late) d.apart)
 
-still_keeps_up : (unit : ℕ → ℕ) (b c : Broadcast) → AreBroadcast unit b c → (s t : Turn) → IsTurnWithin b.packets s t → keeps_up c t ≡ true → keeps_up b s ≡ true
+still_keeps_up : (unit : ℕ → ℕ) (b c : Broadcast) → AreBroadcast unit b c → (s t : Turn) → IsTurnWithin b.packets s t → keeps_up c t ≡ true
+    → keeps_up b s ≡ true
 still_keeps_up unit b c alike s t within reported =
     by b.askers c.askers refl refl reported
   where
@@ -138,7 +141,8 @@ still_keeps_up unit b c alike s t within reported =
         ∙ and_from (suc m == 1) (nat_le (s.time + b.late) b.apart) (eq-eqb (suc m) 1 single)
         (le-leb (s.time + b.late) b.apart (omega (arith, fits, time, apart, late))))
 
-module _ (at : Places) (part whole : Plan) (is : IsPartAt at part whole) (good : HasGoodNumbers whole) (timing : Timing) (unplanned : ℕ) (range : unplanned ≤ 1000) (busier : timing.unplanned ≤ unplanned)
+module _ (at : Places) (part whole : Plan) (is : IsPartAt at part whole) (good : HasGoodNumbers whole) (timing : Timing) (unplanned : ℕ)
+    (range : unplanned ≤ 1000) (busier : timing.unplanned ≤ unplanned)
     (stays reported : UnitPlan → Bool)
     (decides : DecidesWhoStays whole stays) (reports_who : DecidesWhoStays part reported) where
   abbrev busy : Timing
@@ -169,14 +173,16 @@ module _ (at : Places) (part whole : Plan) (is : IsPartAt at part whole) (good :
   abbrev place : ℕ → ℕ
   place = frames_place at part whole is good stays reported decides reports_who timing
 
-  all_some : AreSome place (AreFramesWhere at.unit (AreTwinNumbers at) (Always at.unit (AreTwinNumbers at) (one_twin at))) (frames_asked asked) (frames_asked asked_there)
+  all_some : AreSome place (AreFramesWhere at.unit (AreTwinNumbers at) (Always at.unit (AreTwinNumbers at) (one_twin at))) (frames_asked asked)
+      (frames_asked asked_there)
   all_some = some_counted at (Always at.unit (AreTwinNumbers at) (one_twin at)) place (frames_asked asked) (frames_asked asked_there)
       (frames_some at part whole is good stays reported decides reports_who timing)
 
   -- a flow's own frames stand at its place
   own_at : (f : ℕ) (l : FlowLoad) (x : FlowFrames) → slice_get ls f ≡ Some (Some l) → l.messages ≡ Short x → slice_get (frames_asked asked) f ≡ Some (Some x)
   own_at f l x its short = append_front (map frames_of_flow ls)
-      (map singles_of_flow ls ++ (map packets_of_unit asked.units ++ (map announcements_of_unit asked.units ++ map frames_of_request asked.requests))) f (Some x)
+      (map singles_of_flow ls ++ (map packets_of_unit asked.units ++ (map announcements_of_unit asked.units ++ map frames_of_request asked.requests))) f
+      (Some x)
       (slice_get-map frames_of_flow ls f ∙ ap (option_map frames_of_flow) its ∙ ap (λ m. Some (own_frames m)) short)
 
   -- also in the whole
@@ -202,7 +208,8 @@ module _ (at : Places) (part whole : Plan) (is : IsPartAt at part whole) (good :
     -- ---- long messages to all
 
     turn_by : (u packets : ℕ) → u < length lus_here → (l : UnitLoad) → slice_get lus_here u ≡ Some (Some l) → 1 ≤ l.flows → packets ≤ l.all_packets
-        → (tp tw : Option Turn) → (y : Option UnitLoad) → get_or asked_there.units (at.unit u) None ≡ y → UnitsAlike at (Some l) y → IsTurnBy timing asked bp u (Some l) tp → IsTurnBy busy asked_there bw (at.unit u) y tw
+        → (tp tw : Option Turn) → (y : Option UnitLoad) → get_or asked_there.units (at.unit u) None ≡ y → UnitsAlike at (Some l) y
+        → IsTurnBy timing asked bp u (Some l) tp → IsTurnBy busy asked_there bw (at.unit u) y tw
         → IsKnownTurn packets tp tw
     turn_by u packets few l at_l some has tp tw None at_y alike here there t known = absurd alike
     turn_by u packets few l at_l some has tp tw (Some k) at_y alike (ap_here, sp, wa, ws, is_p_turn) (None, sw, wa_there, ws_there, is_w_turn) t known =
@@ -210,22 +217,26 @@ module _ (at : Places) (part whole : Plan) (is : IsPartAt at part whole) (good :
     turn_by u packets few l at_l some has tp tw (Some k) at_y alike (ap_here, sp, wa, ws, is_p_turn) (Some aw, None, wa_there, ws_there, is_w_turn) t known =
         absurd (none-some t (sym is_w_turn ∙ known))
     turn_by u packets few l at_l some has tp tw (Some k) at_y alike (ap_here, sp, wa, ws, is_p_turn) (Some aw, Some sw, wa_there, ws_there, is_w_turn) t known =
-        let (a, is_a, a_less) = wait_in_no_later at.unit (AreTwinNumbers at) (one_twin at) timing unplanned range busier (frames_asked asked) (frames_asked asked_there) place all_some ends bp.waits bw.waits
+        let (a, is_a, a_less) = wait_in_no_later at.unit (AreTwinNumbers at) (one_twin at) timing unplanned range busier (frames_asked asked)
+        (frames_asked asked_there) place all_some ends bp.waits bw.waits
         is_p.bounded is_w.bounded bp bw is_p is_w refl refl (2 * length ls + (length lus_here + u)) l.announcements k.announcements
         (announcements_at at part whole is good stays reported decides reports_who timing u l at_l)
         (subst (λ p. slice_get (frames_asked asked_there) p ≡ Some (Some k.announcements))
         (sym (announcements_place_there at part whole is good stays reported decides reports_who timing u few))
         (stands_at (announcements_place asked_there (at.unit u)) k.announcements (announcements_read asked_there (at.unit u) k at_y)))
         alike.announcements.0 ap_here aw wa
-        (subst (λ p. IsWaitIn busy bw p k.announcements (Some aw)) (sym (announcements_place_there at part whole is good stays reported decides reports_who timing u few)) wa_there) in
-        let (s, is_s, s_less) = wait_in_no_later at.unit (AreTwinNumbers at) (one_twin at) timing unplanned range busier (frames_asked asked) (frames_asked asked_there) place all_some ends bp.waits bw.waits
+        (subst (λ p. IsWaitIn busy bw p k.announcements (Some aw))
+        (sym (announcements_place_there at part whole is good stays reported decides reports_who timing u few)) wa_there) in
+        let (s, is_s, s_less) = wait_in_no_later at.unit (AreTwinNumbers at) (one_twin at) timing unplanned range busier (frames_asked asked)
+        (frames_asked asked_there) place all_some ends bp.waits bw.waits
         is_p.bounded is_w.bounded bp bw is_p is_w refl refl (2 * length ls + u) l.packets k.packets
         (packets_at at part whole is good stays reported decides reports_who timing u l at_l)
         (subst (λ p. slice_get (frames_asked asked_there) p ≡ Some (Some k.packets))
         (sym (packets_place_there at part whole is good stays reported decides reports_who timing u few))
         (stands_at (packets_place asked_there (at.unit u)) k.packets (packets_read asked_there (at.unit u) k at_y)))
         alike.packets.0 sp sw ws
-        (subst (λ p. IsWaitIn busy bw p k.packets (Some sw)) (sym (packets_place_there at part whole is good stays reported decides reports_who timing u few)) ws_there) in
+        (subst (λ p. IsWaitIn busy bw p k.packets (Some sw)) (sym
+        (packets_place_there at part whole is good stays reported decides reports_who timing u few)) ws_there) in
         let bits = alike.packets.0.bits in
         let first_bits = alike.announcements.0.bits in
         let one : packet_time timing l s ≤ packet_time timing k sw = omega (arith, s_less, bits) in
@@ -235,7 +246,8 @@ module _ (at : Places) (part whole : Plan) (is : IsPartAt at part whole) (good :
               let reported_w : flow_turn timing k aw sw ≡ t =
               same_Some _ t (sym (is_w_turn ∙ ap (λ b. if b then Some (flow_turn timing k aw sw) else None) within) ∙ known) in
               let low = leb-true (packet_time timing k sw) (longest_pause timing) within in
-              let fits : nat_le (packet_time timing l s) (longest_pause timing) ≡ true = le-leb (packet_time timing l s) (longest_pause timing) (omega (arith, one, low)) in (
+              let fits : nat_le (packet_time timing l s) (longest_pause timing) ≡ true = le-leb (packet_time timing l s) (longest_pause timing)
+              (omega (arith, one, low)) in (
                 flow_turn timing l a s,
                 is_p_turn ∙ ap (λ o. known_turn timing l o sp) is_a ∙ ap (λ o. known_turn timing l (Some a) o) is_s
                     ∙ ap (λ b. if b then Some (flow_turn timing l a s) else None) fits,
@@ -250,7 +262,8 @@ module _ (at : Places) (part whole : Plan) (is : IsPartAt at part whole) (good :
     whole_no_later l at_l b c to_all alike v w (tp, turn_p, is_v) (tw, turn_w, is_w_time) =
         let (flow, flow_at) = value_at part.flows.items f below in
         let is_l : load_of_flow timing part reported flow ≡ Some l =
-        same_Some _ (Some l) (sym (slice_get-map (load_of_flow timing part reported) part.flows.items f ∙ ap (option_map (load_of_flow timing part reported)) flow_at) ∙ at_l) in
+        same_Some _ (Some l) (sym (slice_get-map (load_of_flow timing part reported) part.flows.items f ∙ ap
+        (option_map (load_of_flow timing part reported)) flow_at) ∙ at_l) in
         let within = flow_sender at part whole is good stays reported decides reports_who timing f flow flow_at l is_l b to_all in
         let (unit, at_u, by_b) = unit_asks at part whole is good stays reported decides reports_who timing f b.sender (Some l) b at_l
         (ap (broadcast_from b.sender) to_all ∙ ap (λ t. if t then Some b else None) (eq-eqb b.sender b.sender refl)) within in
@@ -259,7 +272,8 @@ module _ (at : Places) (part whole : Plan) (is : IsPartAt at part whole) (good :
         let known = turn_by b.sender b.packets few unit at_u by_b.flows by_b.packets tp tw its.value
         (get_or_from_slice_get asked_there.units (at.unit b.sender) its.value None its.value_is) its.meets
         (subst (λ o. IsTurnBy timing asked bp b.sender o tp) (get_or_from_slice_get lus_here b.sender (Some unit) None at_u) turn_p)
-        (subst (λ o. IsTurnBy busy asked_there bw (at.unit b.sender) o tw) (get_or_from_slice_get asked_there.units (at.unit b.sender) its.value None its.value_is)
+        (subst (λ o. IsTurnBy busy asked_there bw (at.unit b.sender) o tw)
+        (get_or_from_slice_get asked_there.units (at.unit b.sender) its.value None its.value_is)
         (subst (λ s. IsTurn busy asked_there bw s tw) alike.sender turn_w)) in
         record {
           frames = ap (λ (x : WholeTime). x.frames) is_v ∙ ap frames_to_all (sym alike.packets) ∙ sym (ap (λ (x : WholeTime). x.frames) is_w_time);
@@ -296,7 +310,8 @@ module _ (at : Places) (part whole : Plan) (is : IsPartAt at part whole) (good :
     by_to_one x y same limit high (Long m) (Whole n) here there = absurd there
     by_to_one x y same limit high (Long m) (Long n) here there = ap (λ k. Some (Long k)) (here ∙ same.frames ∙ sym there)
 
-    by_to_all : (l : FlowLoad) → slice_get ls f ≡ Some (Some l) → (b c : Broadcast) → l.messages ≡ ToAll b → AreBroadcast at.unit b c → (limit high : ℕ) (d e : Delay)
+    by_to_all : (l : FlowLoad) → slice_get ls f ≡ Some (Some l) → (b c : Broadcast) → l.messages ≡ ToAll b → AreBroadcast at.unit b c
+        → (limit high : ℕ) (d e : Delay)
         → IsDelayOf timing asked bp f (ToAll b) limit d → IsDelayOf busy asked_there bw (at.flow f) (ToAll c) high e → IsNoLater (Some d) (Some e)
     by_to_all l at_l b c to_all alike limit high (Within m) e here there = absurd here
     by_to_all l at_l b c to_all alike limit high (Beyond m) e here there = absurd here
@@ -308,11 +323,13 @@ module _ (at : Places) (part whole : Plan) (is : IsPartAt at part whole) (good :
     by_to_all l at_l b c to_all alike limit high (Whole v) (Long n) here there = absurd there
     by_to_all l at_l b c to_all alike limit high (Whole v) (Whole w) here there = (v, refl, whole_no_later l at_l b c to_all alike v w here there)
 
-    by_messages : (l k : FlowLoad) → slice_get ls f ≡ Some (Some l) → slice_get asked_there.flows (at.flow f) ≡ Some (Some k) → l.limit ≡ k.limit → (a c : Messages)
+    by_messages : (l k : FlowLoad) → slice_get ls f ≡ Some (Some l) → slice_get asked_there.flows (at.flow f) ≡ Some (Some k) → l.limit ≡ k.limit
+        → (a c : Messages)
         → l.messages ≡ a → k.messages ≡ c → MessagesAlike at a c → (d e : Delay)
         → IsDelayOf timing asked bp f a l.limit d → IsDelayOf busy asked_there bw (at.flow f) c k.limit e → IsNoLater (Some d) (Some e)
     by_messages l k its its_there limit (Short x) (Short y) short short_there alike d e here there =
-        frame_no_later at.unit (AreTwinNumbers at) (one_twin at) timing unplanned range busier (frames_asked asked) (frames_asked asked_there) place all_some ends bp.waits bw.waits
+        frame_no_later at.unit (AreTwinNumbers at) (one_twin at) timing unplanned range busier (frames_asked asked)
+        (frames_asked asked_there) place all_some ends bp.waits bw.waits
         is_p.bounded is_w.bounded bp bw is_p is_w refl refl f x y (own_at f l x its short)
         (subst (λ n. slice_get (frames_asked asked_there) n ≡ Some (Some y))
         (sym (flow_place at part whole is good timing stays reported decides reports_who f below)) (own_there (at.flow f) k y its_there short_there))
@@ -320,7 +337,8 @@ module _ (at : Places) (part whole : Plan) (is : IsPartAt at part whole) (good :
         (subst (λ n. IsFrameDelay timing bp f x n d) limit here)
         (subst (λ n. IsFrameDelay busy bw n y k.limit e) (sym (flow_place at part whole is good timing stays reported decides reports_who f below)) there)
     by_messages l k its its_there limit (ToOne x) (ToOne y) to_one one_there alike d e here there = by_to_one x y alike.1 l.limit k.limit d e here there
-    by_messages l k its its_there limit (ToAll b) (ToAll c) to_all all_there alike d e here there = by_to_all l its b c to_all alike l.limit k.limit d e here there
+    by_messages l k its its_there limit (ToAll b)
+        (ToAll c) to_all all_there alike d e here there = by_to_all l its b c to_all alike l.limit k.limit d e here there
     by_messages l k its its_there limit (Short x) (ToOne y) short short_there alike d e here there = absurd alike
     by_messages l k its its_there limit (Short x) (ToAll y) short short_there alike d e here there = absurd alike
     by_messages l k its its_there limit (ToOne x) (Short y) short short_there alike d e here there = absurd alike

@@ -27,7 +27,8 @@ use Rattle.j39_load.specs.declared.frames.messages.Messages.TheVariants.{Short, 
 use Rattle.j39_load.specs.declared.loads.flow_load.FlowLoad.{FlowLoad}
 use Rattle.std.specs.Option.{option_and_then}
 use Rattle.j39_load.specs.Asked.{frames_of_flow, own_frames, singles_of_flow, wanting}
-use Rattle.j39_load.specs.Loads.{any_unit, bits_at_least, bits_at_most, broadcast_of, destination_at, flow_load, greatest_address, group_ident, has_short, is_always_short, least_address}
+use Rattle.j39_load.specs.Loads.{any_unit, bits_at_least, bits_at_most, broadcast_of, destination_at, flow_load, greatest_address, group_ident, has_short}
+use Rattle.j39_load.specs.Loads.{is_always_short, least_address}
 use Rattle.j39_load.specs.Loads.{bits_a_second, bits_of_ms, bits_per_ms, load_of, load_of_messages, long_messages, messages_of, of_unit, packet_frames}
 use Rattle.j39_load.specs.Loads.{single_frames, singles_of, twin_ident}
 use Rattle.j39_load.specs.AnswerStreams.{answered_within, askers_of, broadcast_for, frames_for, late_for, load_for, messages_for, wanted_for}
@@ -45,7 +46,8 @@ use Rattle.j39_part_laws.proofs.Shares.{ceil-mono}
 use Rattle.j39_part_laws.proofs.Frames.{AreAtOnePace, AreBroadcast, AreFrames, WantedAlike}
 use Rattle.j39_part_laws.proofs.Groups.{bad_pgn, same_load}
 use Rattle.j39_part_laws.proofs.Places.{value_at}
-use Rattle.j39_part_laws.proofs.PlanFrames.{any_few, any_in, AreTwinNumbers, greatest_ident_in, greatest_in, ident-mono, IsAmong, least_ident_in, unit_at_place, there_too}
+use Rattle.j39_part_laws.proofs.PlanFrames.{any_few, any_in, AreTwinNumbers, greatest_ident_in, greatest_in, ident-mono, IsAmong, least_ident_in, unit_at_place}
+use Rattle.j39_part_laws.proofs.PlanFrames.{there_too}
 
 abbrev pub Alike : Places → FlowFrames → FlowFrames → Type 0
 Alike at = AreFrames at.unit (AreTwinNumbers at)
@@ -96,7 +98,8 @@ same_load_of timing x y one period =
 most_mono : (timing : Timing) (ms more : ℕ) → ms ≤ more → bits_at_most timing ms ≤ bits_at_most timing more
 most_mono timing ms more less =
     let times : ms * bits_per_ms timing.bitrate ≤ more * bits_per_ms timing.bitrate = mul-le-mul_right (bits_per_ms timing.bitrate) less in
-    ceil-mono (bits_of_ms timing ms * longest_million timing) (bits_of_ms timing more * longest_million timing) (shortest_million timing) (shortest_million timing)
+    ceil-mono (bits_of_ms timing ms * longest_million timing) (bits_of_ms timing more * longest_million timing) (shortest_million timing)
+    (shortest_million timing)
     (mul-le-mul_right (longest_million timing) times) (some_slow timing) (omega arith)
 
 module _ (timing : Timing) (pace : Pace) (at : Places) where
@@ -168,7 +171,8 @@ module _ (timing : Timing) (pace : Pace) (at : Places) where
     positive = alike.positive;
   }
 
-  messages_more : (a b : Messages) → BareAlike timing pace at a b → (k n : ℕ) → k ≤ n → MessagesAlike at (messages_for timing pace k a) (messages_for timing pace n b)
+  messages_more : (a b : Messages) → BareAlike timing pace at a b → (k n : ℕ) → k ≤ n → MessagesAlike at (messages_for timing pace k a)
+      (messages_for timing pace n b)
   messages_more (Short x) (Short y) (alike, one, bare, bare_there) k n less = (frames_more x y alike bare bare_there k n less, same_pace x y k n one)
   messages_more (ToOne x) (ToOne y) (alike, one, bare, bare_there) k n less = (frames_more x y alike bare bare_there k n less, same_pace x y k n one)
   messages_more (ToAll b) (ToAll c) (alike, jitter) k n less = broadcast_more b c alike jitter k n less
@@ -190,7 +194,8 @@ askers_more at part whole is flow there stands = rw (stands.on_request) (by flow
     few (x ∷ xs) (y ∷ ys) (inl (stands_there, left)) = let rest = few xs ys left in omega (arith, rest)
     few (x ∷ xs) (y ∷ ys) (inr later) = let rest = few (x ∷ xs) ys later in omega (arith, rest)
 
-    by : (b : Bool) → (if b then length (asking_periods part.requests.items flow) else 0) ≤ (if b then length (asking_periods whole.requests.items there) else 0)
+    by : (b : Bool) → (if b then length (asking_periods part.requests.items flow) else 0)
+        ≤ (if b then length (asking_periods whole.requests.items there) else 0)
     by false = omega arith
     by true = few (asking_periods part.requests.items flow) (asking_periods whole.requests.items there)
         (periods_there at part whole is flow there stands)
@@ -259,14 +264,17 @@ module _ (at : Places) (part whole : Plan) (is : IsPartAt at part whole) (good :
     sender_any : any_unit ws there.sender ≡ option_map at.unit (any_unit us flow.sender)
     sender_any = ap (any_unit ws) stands.sender ∙ any_in at part whole is stays reported decides reports_who flow.sender among.sender_in
 
-    least_ident : (priority pgn : ℕ) → identifier_of priority pgn (destination_at (of_unit ws (least_address stays)) there.to) (of_unit ws (least_address stays) there.sender)
+    least_ident : (priority pgn : ℕ) → identifier_of priority pgn (destination_at (of_unit ws (least_address stays)) there.to)
+        (of_unit ws (least_address stays) there.sender)
         ≤ identifier_of priority pgn (destination_at (of_unit us (least_address reported)) flow.to) (of_unit us (least_address reported) flow.sender)
-    least_ident priority pgn = rw (stands.to, stands.sender) (least_ident_in at part whole is stays reported decides reports_who priority pgn flow.sender flow.to among)
+    least_ident priority pgn = rw (stands.to, stands.sender)
+        (least_ident_in at part whole is stays reported decides reports_who priority pgn flow.sender flow.to among)
 
     greatest_ident : (priority pgn : ℕ)
         → identifier_of priority pgn (destination_at (of_unit us (greatest_address reported)) flow.to) (of_unit us (greatest_address reported) flow.sender)
         ≤ identifier_of priority pgn (destination_at (of_unit ws (greatest_address stays)) there.to) (of_unit ws (greatest_address stays) there.sender)
-    greatest_ident priority pgn = rw (stands.to, stands.sender) (greatest_ident_in at part whole is stays reported decides reports_who priority pgn flow.sender flow.to among)
+    greatest_ident priority pgn = rw (stands.to, stands.sender)
+        (greatest_ident_in at part whole is stays reported decides reports_who priority pgn flow.sender flow.to among)
 
     single_alike : Alike at (single_frames timing us reported flow pace group) (single_frames timing ws stays there pace group)
     single_alike = record {
@@ -302,7 +310,8 @@ module _ (at : Places) (part whole : Plan) (is : IsPartAt at part whole) (good :
         wanted = None;
       }) same_window
 
-      session_last : (packet_frames timing us reported flow v pace packets).last_ident ≤ (packet_frames timing ws stays there (at.unit v) pace packets).last_ident
+      session_last : (packet_frames timing us reported flow v pace packets).last_ident
+          ≤ (packet_frames timing ws stays there (at.unit v) pace packets).last_ident
       session_last =
           let receiver = greatest_in at part whole is stays reported decides reports_who v in_units in
           let sender : of_unit us (greatest_address reported) flow.sender ≤ of_unit ws (greatest_address stays) there.sender =
@@ -348,7 +357,8 @@ module _ (at : Places) (part whole : Plan) (is : IsPartAt at part whole) (good :
     single_bare : (units : List UnitPlan) (who : UnitPlan → Bool) (one : FlowPlan) → AreBare timing pace (single_frames timing units who one pace group).stream
     single_bare units who one = record { some = omega arith; unwanted = refl; period = refl }
 
-    packets_bare : (units : List UnitPlan) (who : UnitPlan → Bool) (one : FlowPlan) (v packets : ℕ) → AreBare timing pace (packet_frames timing units who one v pace packets).stream
+    packets_bare : (units : List UnitPlan) (who : UnitPlan → Bool) (one : FlowPlan) (v packets : ℕ)
+        → AreBare timing pace (packet_frames timing units who one v pace packets).stream
     packets_bare units who one v packets = record { some = omega arith; unwanted = refl; period = refl }
 
     one_pace : (x y : Stream) → x ≡ y → AreAtOnePace x y
@@ -371,7 +381,8 @@ module _ (at : Places) (part whole : Plan) (is : IsPartAt at part whole) (good :
 
     singles_bare : Alike at (single_frames timing us reported flow pace group) (single_frames timing ws stays there pace group)
         × AreAtOnePace (single_frames timing us reported flow pace group).stream (single_frames timing ws stays there pace group).stream
-        × AreBare timing pace (single_frames timing us reported flow pace group).stream × AreBare timing pace (single_frames timing ws stays there pace group).stream
+        × AreBare timing pace (single_frames timing us reported flow pace group).stream
+        × AreBare timing pace (single_frames timing ws stays there pace group).stream
     singles_bare = (single_alike, one_pace _ _ refl, single_bare us reported flow, single_bare ws stays there)
 
     messages_alike : BareAlike timing pace at (messages_of timing us reported flow pace group) (messages_of timing ws stays there pace group)
@@ -379,7 +390,8 @@ module _ (at : Places) (part whole : Plan) (is : IsPartAt at part whole) (good :
         (if b then Short (single_frames timing us reported flow pace group) else long_messages timing us reported flow pace group flow.to)
         (if b then Short (single_frames timing ws stays there pace group) else long_messages timing ws stays there pace group there.to)) [
           | true ↦ singles_bare
-          | false ↦ subst (λ t. BareAlike timing pace at (long_messages timing us reported flow pace group flow.to) (long_messages timing ws stays there pace group t))
+          | false ↦ subst (λ t. BareAlike timing pace at (long_messages timing us reported flow pace group flow.to)
+              (long_messages timing ws stays there pace group t))
               (sym stands.to) (long_alike flow.to among.receiver_in)
         ]
 
@@ -392,7 +404,8 @@ module _ (at : Places) (part whole : Plan) (is : IsPartAt at part whole) (good :
           (option_map (frames_for timing pace n) (if b then Some (single_frames timing ws stays there pace group) else None))) [
             | true ↦ (
               frames_more timing pace at _ _ single_alike (single_bare us reported flow) (single_bare ws stays there) k n less,
-              same_pace timing pace at (single_frames timing us reported flow pace group) (single_frames timing ws stays there pace group) k n (one_pace _ _ refl),
+              same_pace timing pace at (single_frames timing us reported flow pace group) (single_frames timing ws stays there pace group) k n
+                  (one_pace _ _ refl),
             )
             | false ↦ tt
           ]
@@ -408,9 +421,11 @@ module _ (at : Places) (part whole : Plan) (is : IsPartAt at part whole) (good :
       load_same (ToAll b) (ToOne y) alike period = absurd alike
       load_same (ToAll b) (ToAll c) alike period = refl
 
-      load_alike : LoadAlike at (load_for timing pace k (flow_load timing us reported flow pace group)) (load_for timing pace n (flow_load timing ws stays there pace group))
+      load_alike : LoadAlike at (load_for timing pace k (flow_load timing us reported flow pace group))
+          (load_for timing pace n (flow_load timing ws stays there pace group))
       load_alike = record {
-        messages = messages_more timing pace at (messages_of timing us reported flow pace group) (messages_of timing ws stays there pace group) messages_alike k n less;
+        messages = messages_more timing pace at (messages_of timing us reported flow pace group)
+            (messages_of timing ws stays there pace group) messages_alike k n less;
         singles = singles_alike;
         limit = refl;
         bits = load_same (messages_of timing us reported flow pace group) (messages_of timing ws stays there pace group) messages_alike pace.period;
@@ -431,7 +446,8 @@ module _ (at : Places) (part whole : Plan) (is : IsPartAt at part whole) (good :
           let other = is.groups.each flow.group group sent in
           let number = number_of flow.group group sent in
           let here_is : load_of_flow timing part reported flow ≡ Some (asked_load timing part.requests.items us reported flow pace group) =
-          ap (option_and_then (λ (p : Pace). option_map (asked_load timing part.requests.items us reported flow p) (slice_get part.groups.items flow.group))) paced
+          ap (option_and_then (λ (p : Pace). option_map (asked_load timing part.requests.items us reported flow p)
+          (slice_get part.groups.items flow.group))) paced
           ∙ ap (option_map (asked_load timing part.requests.items us reported flow pace)) sent in
           let there_is : load_of_flow timing whole stays there ≡ Some (asked_load timing whole.requests.items ws stays there pace other.value) =
           ap (option_and_then (λ (p : Pace). option_map (asked_load timing whole.requests.items ws stays there p) (slice_get whole.groups.items there.group)))

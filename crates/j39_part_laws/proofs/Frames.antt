@@ -1,5 +1,6 @@
 -- Frames that ask no more than others, and the waits among them.
-use Rattle.std.proofs.Common.{◌≡◌, ◌≢◌, ℕ, zero, suc, ◌+◌, ◌-◌, ◌*◌, ◌^◌, ◌<◌, ◌≤◌, ◌⊎◌, max, Bool, true, false, not, ◌||◌, ◌==◌, nat_le, nat_lt, if◌then◌else◌, is_some}
+use Rattle.std.proofs.Common.{◌≡◌, ◌≢◌, ℕ, zero, suc, ◌+◌, ◌-◌, ◌*◌, ◌^◌, ◌<◌, ◌≤◌, ◌⊎◌, max, Bool, true, false, not, ◌||◌, ◌==◌, nat_le, nat_lt, if◌then◌else◌}
+use Rattle.std.proofs.Common.{is_some}
 use Rattle.std.proofs.Common.{List, [], ◌∷◌, ◌++◌, length, map, get_or, Option, Some, None, option_map, refl, sym, ◌∙◌, ap, subst, inl, inr, arith}
 use Rattle.std.specs.Int.{div_ceil}
 use Rattle.std.specs.List.{range_with_len, slice_get, sum_by}
@@ -7,7 +8,8 @@ use Rattle.std.proofs.Math.Nat.{mul-le-mul_right}
 use Rattle.std.proofs.lemmas.Grind.{div_ceil_times}
 use Rattle.std.proofs.lemmas.List.Sums.{sum_by-append, sum_by-cons}
 use Rattle.std.specs.Option.{option_and_then, option_map_or}
-use Rattle.std.proofs.lemmas.Bool.{and_from, and_parts, cases_Bool, cases_eq, cases_lt, eqb-true, eq-eqb, false≢true, le-leb, leb-true, ltb-true, lt-ltb, ne_eqb, or_cases, or_left, or_right, true≢false}
+use Rattle.std.proofs.lemmas.Bool.{and_from, and_parts, cases_Bool, cases_eq, cases_lt, eqb-true, eq-eqb, false≢true, le-leb, leb-true, ltb-true, lt-ltb}
+use Rattle.std.proofs.lemmas.Bool.{ne_eqb, or_cases, or_left, or_right, true≢false}
 use Rattle.std.proofs.lemmas.List.{get_or-append-add, get_or_append_left, length-append}
 use Rattle.std.proofs.lemmas.List.FromFn.{get_or-map-range_with_len, length-map-range_with_len}
 use Rattle.std.proofs.lemmas.Option.{none-some, same_Some, slice_get-get_or}
@@ -190,7 +192,8 @@ module _ (unit : ℕ → ℕ) (Twins : ℕ → ℕ → Type 0) (one_twin : (m n 
         let below = ltb-true x.least_ident own.greatest_ident less in
         let least = also.least in
         let greatest = are.greatest in
-        or_left (nat_lt y.least_ident there.greatest_ident) (are_twins there y) (lt-ltb y.least_ident there.greatest_ident (omega (arith, below, least, greatest)))
+        or_left (nat_lt y.least_ident there.greatest_ident) (are_twins there y)
+        (lt-ltb y.least_ident there.greatest_ident (omega (arith, below, least, greatest)))
     | inr twins ↦
         let parts = and_parts (is_same own.twin_ident x.twin_ident) (keep_order x || not (keep_order own)) twins in
         let order : (keep_order y || not (keep_order there)) ≡ true = rw (same_order x y also, same_order own there are) parts.1 in
@@ -232,7 +235,14 @@ module _ (unit : ℕ → ℕ) (Twins : ℕ → ℕ → Type 0) (one_twin : (m n 
       let some = are.positive in
       let late = are.late in
       let askers = are.askers in
-      record { frames = omega arith; positive = omega (arith, apart, some); period = omega (arith, apart); jitter = omega (arith, late); more = omega (arith, askers) }
+      record {
+        frames = omega arith;
+        positive = omega (arith, apart, some);
+        period = omega (arith, apart);
+        jitter = omega (arith, late);
+        more = omega
+            (arith, askers);
+      }
 
   packets_demanded : (bs cs : List Broadcast) → IsSub (AreBroadcast unit) bs cs → DemandsNoMore (packets_demand bs) (packets_demand cs)
   packets_demanded bs cs sub = record {
@@ -290,7 +300,8 @@ module _ (unit : ℕ → ℕ) (Twins : ℕ → ℕ → Type 0) (one_twin : (m n 
     demanded frames period (Some (Askers v)) (Some (Askers w)) alike = tt
 
     -- nor what others ask for
-    asked_no_more : (x : Stream) (d e : Option WantedBy) → WantedAlike unit x.frames x.period d e → IsAskedNoMore x (option_and_then of_askers d) (option_and_then of_askers e)
+    asked_no_more : (x : Stream) (d e : Option WantedBy) → WantedAlike unit x.frames x.period d e → IsAskedNoMore x (option_and_then of_askers d)
+        (option_and_then of_askers e)
     asked_no_more x None None alike = tt
     asked_no_more x None (Some (Sender e)) alike = absurd alike
     asked_no_more x None (Some (Askers w)) alike = (alike.frames_most, alike.positive, alike.period_most)
@@ -332,13 +343,15 @@ module _ (unit : ℕ → ℕ) (Twins : ℕ → ℕ → Type 0) (one_twin : (m n 
     where
       one : (rate : ErrorRate) (bits : ℕ) → AsksNoMore ds es (damage_stream timing rate bits) (damage_stream timing rate bits)
       one rate bits = record {
-        stream = record { frames = omega arith; bits = omega arith; positive = some_inside timing rate.every rate.every_positive; period = omega arith; jitter = omega arith };
+        stream = record
+            { frames = omega arith; bits = omega arith; positive = some_inside timing rate.every rate.every_positive; period = omega arith; jitter = omega arith };
         wanted = tt;
         asked = tt;
       }
 
       go : (errors : Option ErrorRate)
-          → IsSub (AsksNoMore ds es) (option_map_or (λ rate. damage_stream timing rate (longest_frame 8) ∷ damage_stream timing rate error_frame ∷ []) errors [])
+          → IsSub (AsksNoMore ds es) (option_map_or (λ rate. damage_stream timing rate (longest_frame 8) ∷ damage_stream timing rate error_frame
+          ∷ []) errors [])
           (option_map_or (λ rate. damage_stream timing rate (longest_frame 8) ∷ damage_stream timing rate error_frame ∷ []) errors [])
       go None = tt
       go (Some rate) = inl (one rate (longest_frame 8), inl (one rate error_frame, tt))
@@ -423,7 +436,8 @@ module _ (unit : ℕ → ℕ) (Twins : ℕ → ℕ → Type 0) (one_twin : (m n 
       let first = ap (sum_by f) (same k y (λ here. omega (arith, here))) in
       omega (arith, rest, left, right, first)
 
-  module _ (timing : Timing) (unplanned : ℕ) (range : unplanned ≤ 1000) (busier : timing.unplanned ≤ unplanned) (own there : FlowFrames) (are_own : AreFrames unit Twins own there)
+  module _ (timing : Timing) (unplanned : ℕ) (range : unplanned ≤ 1000) (busier : timing.unplanned ≤ unplanned) (own there : FlowFrames)
+      (are_own : AreFrames unit Twins own there)
       (Goes : FlowFrames → Type 0) (goes : (y : FlowFrames) → may_precede there y ≡ true → Goes y) (all others : List (Option FlowFrames)) (place : ℕ → ℕ)
       (are : AreSome place (AreFramesWhere unit Twins Goes) all others) (i : ℕ)
       (x y : FlowFrames) (at_x : slice_get all i ≡ Some (Some x)) (at_y : slice_get others (place i) ≡ Some (Some y)) (alike : AreFrames unit Twins x y)
@@ -523,8 +537,10 @@ module _ (unit : ℕ → ℕ) (Twins : ℕ → ℕ → Type 0) (one_twin : (m n 
           needs w =
               let all_of = bound.needs w in
               let counted = beside_and_own w in
-              let beside = sum_by-append (lesser_share (demands_of others) (w + 1)) (damage_streams busy) (lines_of_each (going_beside (place i) there) 0 others) in
-              let before = sum_by-append (lesser_share (demands_of others) (w + 1)) (damage_streams busy) (lines_of_each (going_before (place i) there) 0 others) in
+              let beside = sum_by-append (lesser_share (demands_of others) (w + 1)) (damage_streams busy)
+              (lines_of_each (going_beside (place i) there) 0 others) in
+              let before = sum_by-append (lesser_share (demands_of others) (w + 1)) (damage_streams busy)
+              (lines_of_each (going_before (place i) there) 0 others) in
               let none : blocking_of timing own ≡ blocking timing own.greatest_ident - 0 =
               ap (λ (b : Bool). blocking timing own.greatest_ident - (if b then own.stream.bits else 0)) unasked in
               omega (arith, all_of, counted, beside, before, none)

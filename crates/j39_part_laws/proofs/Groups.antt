@@ -137,7 +137,9 @@ module _ (g h : GroupPlan) (is : IsGroupThere g h) where
 
     pub same_load : flow_load timing units stays flow pace g ≡ flow_load timing units stays flow pace h
     same_load =
-        ap (λ n. load_by (nat_le n frame_bytes) (has_short g) (single_frames timing units stays flow pace g) (long_messages timing units stays flow pace g flow.to)) (sym is.most)
-        ∙ ap (λ n. load_by (is_always_short h) (nat_le n frame_bytes) (single_frames timing units stays flow pace g) (long_messages timing units stays flow pace g flow.to)) (sym is.length)
+        ap (λ n. load_by (nat_le n frame_bytes) (has_short g) (single_frames timing units stays flow pace g)
+        (long_messages timing units stays flow pace g flow.to)) (sym is.most)
+        ∙ ap (λ n. load_by (is_always_short h) (nat_le n frame_bytes) (single_frames timing units stays flow pace g)
+        (long_messages timing units stays flow pace g flow.to)) (sym is.length)
         ∙ ap (λ x. load_by (is_always_short h) (has_short h) x (long_messages timing units stays flow pace g flow.to)) same_single
         ∙ ap (load_by (is_always_short h) (has_short h) (single_frames timing units stays flow pace h)) (same_long flow.to)

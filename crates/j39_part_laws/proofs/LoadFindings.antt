@@ -15,7 +15,8 @@ use Rattle.j39_load.specs.Asked.{asked_of, total_load}
 use Rattle.j39_load.specs.BusTimes.{timing_of, with_claims}
 use Rattle.j39_load.specs.LineLists.{lines_of_each}
 use Rattle.j39_load.specs.LiveClaims.{claims_stated, unplanned_of}
-use Rattle.j39_load.specs.LoadFindings.{all_findings, AreLoadFindings, flows_asked_too_often, AsksOfBus, further_findings, is_whole_late, lateness, load_findings, overload, time_of_each, without_period}
+use Rattle.j39_load.specs.LoadFindings.{all_findings, AreLoadFindings, flows_asked_too_often, AsksOfBus, further_findings, is_whole_late, lateness}
+use Rattle.j39_load.specs.LoadFindings.{load_findings, overload, time_of_each, without_period}
 use Rattle.j39_load.specs.Loads.{bits_of_second}
 use Rattle.j39_load.specs.FlowLoads.{load_of_flow}
 use Rattle.j39_load.specs.declared.findings.load_finding.LoadFinding.{LoadFinding}
@@ -120,13 +121,15 @@ unplanned_there at part whole is timing =
     ≤ (if live then max timing.unplanned (claims_stated whole) else timing.unplanned)) is.live (either part.live claims)
   where
     either : (live : Bool) → claims_stated part ≤ claims_stated whole
-        → (if live then max timing.unplanned (claims_stated part) else timing.unplanned) ≤ (if live then max timing.unplanned (claims_stated whole) else timing.unplanned)
+        → (if live then max timing.unplanned (claims_stated part) else timing.unplanned)
+        ≤ (if live then max timing.unplanned (claims_stated whole) else timing.unplanned)
     either true claims = omega (arith, claims)
     either false claims = omega arith
 
 -- ---- all of them
 
-module _ (at : Places) (part whole : Plan) (is : IsPartAt at part whole) (good : HasGoodNumbers whole) (timing : Timing) (unplanned : ℕ) (range : unplanned ≤ 1000)
+module _ (at : Places) (part whole : Plan) (is : IsPartAt at part whole) (good : HasGoodNumbers whole) (timing : Timing) (unplanned : ℕ)
+    (range : unplanned ≤ 1000)
     (busier : timing.unplanned ≤ unplanned) (reported stays : UnitPlan → Bool) (ds es : List (Option Delay)) (here : AsksOfBus part timing reported ds)
     (there : AsksOfBus whole (counting timing unplanned range) stays es) where
   abbrev busy : Timing
@@ -142,7 +145,8 @@ module _ (at : Places) (part whole : Plan) (is : IsPartAt at part whole) (good :
   all_there = all_findings whole busy load_there es
 
   -- the delay of the same flow in the whole
-  pub delay_there : (f : ℕ) (d : Option Delay) → slice_get ds f ≡ Some d → (e : Option Delay) × (slice_get es (at.flow f) ≡ Some e) × IsNoLater d e × (f < length part.flows.items)
+  pub delay_there : (f : ℕ) (d : Option Delay) → slice_get ds f ≡ Some d → (e : Option Delay) × (slice_get es (at.flow f) ≡ Some e) × IsNoLater d e
+      × (f < length part.flows.items)
   delay_there f d at_f =
       let below = slice_get_within ds f d at_f in
       let count = here.waits.count in
@@ -232,13 +236,14 @@ module _ (at : Places) (part whole : Plan) (is : IsPartAt at part whole) (good :
               | inl old ↦ let (d, is_it) = of_old timing part ds finding old in subst (IsFoundThere at part all_there) (sym is_it) tt
               | inr asked ↦ asked_found finding asked
             ]
-        | inl others ↦ elim (Contains-append_cases (lines_of_each without_period 0 ds) (overload timing load_here ++ lines_of_each lateness 0 ds) finding others) [
-          | inl unpaced ↦ unpaced_found finding unpaced
-          | inr more ↦ elim (Contains-append_cases (overload timing load_here) (lines_of_each lateness 0 ds) finding more) [
-            | inl too_much ↦ overload_found finding too_much
-            | inr late ↦ late_found finding late
-          ]
-        ]
+        | inl others ↦ elim (Contains-append_cases (lines_of_each without_period 0 ds)
+            (overload timing load_here ++ lines_of_each lateness 0 ds) finding others) [
+              | inl unpaced ↦ unpaced_found finding unpaced
+              | inr more ↦ elim (Contains-append_cases (overload timing load_here) (lines_of_each lateness 0 ds) finding more) [
+                | inl too_much ↦ overload_found finding too_much
+                | inr late ↦ late_found finding late
+              ]
+            ]
       ]
 
 module _ (at : Places) (part whole : Plan) (is : IsPartAt at part whole) (good : HasGoodNumbers whole) (here there : List LoadFinding) where
@@ -247,7 +252,8 @@ module _ (at : Places) (part whole : Plan) (is : IsPartAt at part whole) (good :
   by_timing None none_here none_there finding found = absurd (none_of finding (subst (λ l. Contains l finding) none_here found))
   by_timing (Some timing) (reported, ds, asks, is_here) (stays, es, asks_there, is_there) finding found =
       subst (λ l. IsFoundThere at part l finding) (sym is_there)
-      (found_there at part whole is good (with_claims part timing) (unplanned_of whole timing) (few_unplanned whole timing) (unplanned_there at part whole is timing)
+      (found_there at part whole is good (with_claims part timing) (unplanned_of whole timing) (few_unplanned whole timing)
+      (unplanned_there at part whole is timing)
       reported stays ds es asks asks_there finding (subst (λ l. Contains l finding) is_here found))
 
 pub are_found_there : (at : Places) (part whole : Plan) → IsPartAt at part whole → HasGoodNumbers whole → AreFoundThere at part whole

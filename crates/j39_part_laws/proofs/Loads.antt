@@ -51,7 +51,8 @@ module _ (at : Places) (timing : Timing) (unplanned : ℕ) (range : unplanned �
       alike.1 in
       record { there = there; stands = stands; needs = waits.needs; least = waits.least }
 
-  pub waits : (i : ℕ) (own : FlowFrames) → slice_get all i ≡ Some (Some own) → WaitNoLongerThan timing (counting timing unplanned range) all others i (place i) own
+  pub waits : (i : ℕ) (own : FlowFrames) → slice_get all i ≡ Some (Some own) → WaitNoLongerThan timing (counting timing unplanned range) all others i
+      (place i) own
   waits i own its = let there = are.each i (Some own) its in wait_no_longer i own there.value its there.value_is there.meets
 
 -- ---- loads

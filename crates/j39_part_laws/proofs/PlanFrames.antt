@@ -74,15 +74,18 @@ module _ (at : Places) where
   one_twin m n o one other =
       let s = one.among.sender_in in
       let t = other.among.sender_in in
-      let reported = states one.priority other.priority one.pgn other.pgn (destination_at (λ u. u) one.to) (destination_at (λ u. u) other.to) one.sender other.sender
-      one.page other.page (few_to one.to one.among.receiver_in) (few_to other.to other.among.receiver_in) (omega (arith, s)) (omega (arith, t)) one.low other.low
+      let reported = states one.priority other.priority one.pgn other.pgn (destination_at (λ u. u) one.to)
+      (destination_at (λ u. u) other.to) one.sender other.sender
+      one.page other.page (few_to one.to one.among.receiver_in) (few_to other.to other.among.receiver_in) (omega (arith, s))
+      (omega (arith, t)) one.low other.low
       (sym one.first ∙ other.first) in
       one.second
       ∙ same_ident one.priority other.priority one.pgn other.pgn _ _ _ _ reported.0 reported.1 (ap at.unit reported.2)
       (λ pdu1. ap (λ to. destination_at (λ u. u) (to_in at to)) (one_to one.to other.to one.among.receiver_in other.among.receiver_in (reported.3 pdu1)))
       ∙ sym other.second
 
-  module _ (part whole : Plan) (is : IsPartAt at part whole) (stays reported : UnitPlan → Bool) (decides : DecidesWhoStays whole stays) (reports_who : DecidesWhoStays part reported) where
+  module _ (part whole : Plan) (is : IsPartAt at part whole) (stays reported : UnitPlan → Bool) (decides : DecidesWhoStays whole stays)
+      (reports_who : DecidesWhoStays part reported) where
     -- ---- units
 
     abbrev us : List UnitPlan
@@ -105,7 +108,8 @@ module _ (at : Places) where
           | inr leaves ↦ ap not leaves
           | inl settled ↦
               let there : StaysBeside whole.strangers (units_of whole) (at.unit u) =
-              subst (λ b. MatchBool b (StaysBeside whole.strangers (units_of whole) (at.unit u)) (¬ StaysBeside whole.strangers (units_of whole) (at.unit u))) settled
+              subst (λ b. MatchBool b (StaysBeside whole.strangers (units_of whole) (at.unit u))
+              (¬ StaysBeside whole.strangers (units_of whole) (at.unit u))) settled
               (decides (at.unit u) unit (there_too u unit here)) in
               let stays_here = (stay_there at part whole is).beside u (slice_get_within us u unit here) there in
               absurd (not_reported (reported unit) refl parts.1 stays_here)
@@ -114,7 +118,8 @@ module _ (at : Places) where
         not_reported : (b : Bool) → reported unit ≡ b → not (reported unit) ≡ true → StaysBeside part.strangers (units_of part) u → ⊥
         not_reported true it moves stays_here = false≢true (sym (ap not it) ∙ moves)
         not_reported false it moves stays_here =
-            subst (λ b. MatchBool b (StaysBeside part.strangers (units_of part) u) (¬ StaysBeside part.strangers (units_of part) u)) it (reports_who u unit here) stays_here
+            subst (λ b. MatchBool b (StaysBeside part.strangers (units_of part) u) (¬ StaysBeside part.strangers (units_of part) u)) it
+            (reports_who u unit here) stays_here
 
     least_of_unit : (u : ℕ) (unit : UnitPlan) → slice_get us u ≡ Some unit → least_address stays unit ≤ least_address reported unit
     least_of_unit u unit here = elim (cases_Bool (may_move reported unit)) [

@@ -95,7 +95,8 @@ asked-no-more span x y is d e wanted None (Some w) (frames, positive, period) =
     ceil-mono (span + x.jitter) (span + y.jitter + w.jitter) x.period w.period (omega (arith, late)) positive period in
     let messages : x.frames * div_ceil (span + x.jitter) x.period ≤ frames_of_want (span + y.jitter) w =
     mul-mono x.frames w.frames (div_ceil (span + x.jitter) x.period) (div_ceil (span + y.jitter + w.jitter) w.period + w.more) frames (omega (arith, slots)) in
-    let bits : x.frames * div_ceil (span + x.jitter) x.period * x.bits ≤ frames_of_want (span + y.jitter) w * y.bits = mul-mono _ _ x.bits y.bits messages is.bits in
+    let bits : x.frames * div_ceil (span + x.jitter) x.period * x.bits ≤ frames_of_want
+    (span + y.jitter) w * y.bits = mul-mono _ _ x.bits y.bits messages is.bits in
     let turned : share span x ≡ x.frames * div_ceil (span + x.jitter) x.period * x.bits = grind arith in
     let less = lesser-most span x d in
     omega (arith, bits, turned, less)
@@ -110,7 +111,8 @@ are_bounded ds es a b xs ys ab sub = record { needs = needs; least = least }
     needs : (w : ℕ) → need ds a xs w ≤ need es b ys w
     needs w =
         let sums = sum-no-more (AsksNoMore ds es) (lesser_share ds (w + 1)) (lesser_share es (w + 1))
-        (λ x y asks. asked-no-more (w + 1) x y asks.stream (demand_of ds x) (demand_of es y) asks.wanted (askers_want x) (askers_want y) asks.asked) xs ys sub in
+        (λ x y asks. asked-no-more (w + 1) x y asks.stream (demand_of ds x) (demand_of es y) asks.wanted (askers_want x)
+        (askers_want y) asks.asked) xs ys sub in
         omega (arith, ab, sums)
 
     least : (v w : ℕ) → NoShorterFits ds a xs v → need es b ys w ≤ w → v ≤ w

@@ -123,7 +123,8 @@ sub_same R [] each = tt
 sub_same R (x ∷ xs) each = inl (each 0 x refl, sub_same R xs (λ i y at. each (suc i) y at))
 
 -- what is reported of each, by its place
-pub sub_lines : {A B C D : Type 0} (S : C → D → Type 0) (report : ℕ → A → List C) (reported : ℕ → B → List D) (xs : List A) (ys : List B) (place : ℕ → ℕ) (d e : ℕ)
+pub sub_lines : {A B C D : Type 0} (S : C → D → Type 0) (report : ℕ → A → List C) (reported : ℕ → B → List D) (xs : List A) (ys : List B) (place : ℕ → ℕ)
+    (d e : ℕ)
     → ((i j : ℕ) → i < j → place i < place j)
     → ((i : ℕ) (x : A) → slice_get xs i ≡ Some x → ValueAt (λ y. IsSub S (report (d + i) x) (reported (e + place i) y)) ys (place i))
     → IsSub S (lines_of_each report d xs) (lines_of_each reported e ys)

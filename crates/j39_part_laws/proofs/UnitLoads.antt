@@ -100,7 +100,8 @@ module _ (unit : ℕ → ℕ) where
       let firsts : sum_by (bits_of_firsts timing) bs ≤ sum_by (bits_of_firsts timing) cs =
       sum-no-more (AreBroadcast unit) (bits_of_firsts timing) (bits_of_firsts timing) (λ b c are. rw (are.has_short, are.period) (omega arith)) bs cs sub in
       let announced : sum_by (bits_of_announcements timing) bs ≤ sum_by (bits_of_announcements timing) cs =
-      sum-no-more (AreBroadcast unit) (bits_of_announcements timing) (bits_of_announcements timing) (λ b c are. rw (are.has_short, are.period) (omega arith)) bs cs sub in
+      sum-no-more (AreBroadcast unit) (bits_of_announcements timing) (bits_of_announcements timing)
+      (λ b c are. rw (are.has_short, are.period) (omega arith)) bs cs sub in
       let gap = timing.broadcast_gap_least in
       let some = some_announced cs each in
       let fewer : least_announced cs * timing.broadcast_gap ≤ least_announced bs * timing.broadcast_gap =
@@ -159,7 +160,8 @@ module _ (at : Places) (part whole : Plan) (is : IsPartAt at part whole) (stays 
   frames_there pgn u gaps fewer place there page within less some wanted =
       let gap : 0 < bits_at_least timing timing.broadcast_gap =
       some_bits timing timing.broadcast_gap (let least = timing.broadcast_gap_least in omega (arith, least)) in
-      let one : 1 * bits_at_least timing timing.broadcast_gap ≤ fewer * bits_at_least timing timing.broadcast_gap = mul-le-mul_right (bits_at_least timing timing.broadcast_gap) some in
+      let one : 1 * bits_at_least timing timing.broadcast_gap ≤ fewer * bits_at_least timing timing.broadcast_gap = mul-le-mul_right
+      (bits_at_least timing timing.broadcast_gap) some in
       let greatest = greatest_ident_in at part whole is stays reported decides reports_who timing.transport_priority pgn u ToAllUnits (among_all u within) in
       record {
         frames = omega arith;
@@ -221,7 +223,8 @@ module _ (at : Places) (part whole : Plan) (is : IsPartAt at part whole) (stays 
 
       go : (period : Option ℕ) → request.period ≡ period
           → RequestsAlike at (load_of_request timing us reported request) (load_of_request timing ws stays there)
-      go None none = subst (λ o. RequestsAlike at (option_map (request_load timing us reported request) o) (load_of_request timing ws stays there)) (sym none) tt
+      go None none = subst (λ o. RequestsAlike at (option_map (request_load timing us reported request) o) (load_of_request timing ws stays there))
+          (sym none) tt
       go (Some period) is_it =
           subst (λ o. RequestsAlike at (option_map (request_load timing us reported request) o) (load_of_request timing ws stays there)) (sym is_it)
           (subst (λ o. RequestsAlike at (Some (request_load timing us reported request period)) (option_map (request_load timing ws stays there) o))

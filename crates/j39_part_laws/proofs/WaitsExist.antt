@@ -6,7 +6,8 @@ use Rattle.std.specs.Bool.{MatchBool}
 use Rattle.j39_network.specs.declared.plan.timing.Timing.{Timing}
 use Rattle.j39_load.specs.declared.frames.flow_frames.FlowFrames.{FlowFrames}
 use Rattle.j39_load.specs.AnyQueues.{AreAtMost, Buffering, IsBufferedFor, IsBuffering, IsLevel, IsQueueGroupLevel, IsQueueGroupWait}
-use Rattle.j39_load.specs.AnyQueues.{IsWaitWith, blocking_with, buffered, is_of_queue_group, keep_order, least_unbounded, leasts_of, streams_with, with_unplanned}
+use Rattle.j39_load.specs.AnyQueues.{IsWaitWith, blocking_with, buffered, is_of_queue_group, keep_order, least_unbounded, leasts_of, streams_with}
+use Rattle.j39_load.specs.AnyQueues.{with_unplanned}
 use Rattle.j39_load.specs.Demands.{demands_of}
 use Rattle.j39_load.specs.Loads.{longest_wait}
 use Rattle.j39_timing.specs.Waits.{Demand, NoShorterFits, need}
@@ -132,7 +133,8 @@ module _ (timing : Timing) (ends : ℕ) (all : List (Option FlowFrames)) where
   some_queue_group_wait : (own : FlowFrames) → (wait : Option ℕ) × IsQueueGroupWait timing ends (leasts_of all) all own wait
   some_queue_group_wait own =
       let level = some_level (leasts_of all) (with_unplanned timing ends own) all in
-      let wait = some_wait (demands_of all) (blocking_with timing own) (streams_with timing (leasts_of all) all (with_unplanned timing ends own) level.0) timing in
+      let wait = some_wait (demands_of all) (blocking_with timing own)
+      (streams_with timing (leasts_of all) all (with_unplanned timing ends own) level.0) timing in
       (wait.0, record { level = level.0; of_queue_group = level.1; least_wait = wait.1 })
 
   some_buffered_for : (o : Option FlowFrames) → (wait : Option ℕ) × IsBufferedFor timing ends all o wait
@@ -145,7 +147,8 @@ module _ (timing : Timing) (ends : ℕ) (all : List (Option FlowFrames)) where
 
   pub some_buffering : (buffering : Buffering) × IsBuffering timing ends all buffering
   some_buffering =
-      let found = listed None (length all) (λ j wait. IsBufferedFor timing ends all (get_or all j None) wait) (λ j below. some_buffered_for (get_or all j None)) in (
+      let found = listed None (length all) (λ j wait. IsBufferedFor timing ends all (get_or all j None) wait) (λ j below. some_buffered_for (get_or all j None))
+      in (
         record { frames = buffered found.0 all; waits = found.0; least_unbounded = least_unbounded found.0 all },
         record {
           bounded = record { count = found.1; each = found.2 };

@@ -23,8 +23,8 @@ pub fn parts_are_found_in_wholes()
         → HoldsThere at whole finding }
 {}
 
-/// A unit that stays in the whole, also beside strangers, stays in each part that it is in, and one that is alone at its
-/// address there is alone in the part.
+/// A unit that stays in the whole, also beside strangers, stays in each part that it is in, and one that is alone at
+/// its address there is alone in the part.
 pub fn who_stays_in_a_part()
     ensures { (at : Places) (part whole : Plan) → IsPartAt at part whole → StayThere at part whole }
 {}
@@ -35,10 +35,10 @@ pub fn less_asked_waits_no_longer()
     ensures { AreBounded }
 {}
 
-/// Of a whole in which no bad number of a group is found each part asks no more of the bus: no frame of it waits longer,
-/// and its load is no greater. On the bus of the whole as many frames may come that aren't planned, or more. (Frames that
-/// share an identifier are reported by the places of their units, which are others in a part: with such a number two flows
-/// could share one there alone.)
+/// Of a whole in which no bad number of a group is found each part asks no more of the bus: no frame of it waits
+/// longer, and its load is no greater. On the bus of the whole as many frames may come that aren't planned, or more.
+/// (Frames that share an identifier are reported by the places of their units, which are others in a part: with such a
+/// number two flows could share one there alone.)
 pub fn parts_ask_no_more()
     ensures { (at : Places) (part whole : Plan) → IsPartAt at part whole → HasGoodNumbers whole → (timing : Timing)
         (unplanned : ℕ) (range : unplanned ≤ 1000) → timing.unplanned ≤ unplanned → (stays reported : UnitPlan → Bool)
@@ -46,8 +46,9 @@ pub fn parts_ask_no_more()
         → AskNoMore at part whole timing (counting timing unplanned range) reported stays }
 {}
 
-/// A delay that is reported of the whole, in which no bad number of a group is found, bounds that of the flow in each part.
-/// So does the time in which long messages to all are whole, and each of them keeps it where each does in the whole.
+/// A delay that is reported of the whole, in which no bad number of a group is found, bounds that of the flow in each
+/// part. So does the time in which long messages to all are whole, and each of them keeps it where each does in the
+/// whole.
 pub fn delays_hold_in_parts()
     ensures { (at : Places) (part whole : Plan) → IsPartAt at part whole → HasGoodNumbers whole → (timing : Timing)
         (unplanned : ℕ) (range : unplanned ≤ 1000) → timing.unplanned ≤ unplanned → (stays reported : UnitPlan → Bool)
@@ -67,11 +68,13 @@ pub fn only_absence_is_found_of_parts()
     ensures { (part whole : Plan) → IsPlanPart part whole → OnlyAbsenceStays part whole }
 {}
 
-/// Each plan has a list of all findings of its load, whatever is known of its bus: it is decided who stays, and each flow
-/// has a delay, whatever is asked of the bus. So what holds where such a list is empty, or has a finding, holds of plans.
+/// Each plan has a list of all findings of its load, whatever is known of its bus: it is decided who stays, and each
+/// flow has a delay, whatever is asked of the bus. So what holds where such a list is empty, or has a finding, holds of
+/// plans.
 pub fn plans_have_load_findings()
     ensures standing { (plan : Plan) → (stays : UnitPlan → Bool) × DecidesWhoStays plan stays }
-    ensures delays { (timing : Timing) (asked : Asked) → (delays : List (Option Delay)) × AreFlowDelays timing asked delays }
+    ensures delays { (timing : Timing) (asked : Asked) → (delays : List (Option Delay))
+        × AreFlowDelays timing asked delays }
     ensures findings { (plan : Plan) (timing : Option Timing) → (findings : List LoadFinding)
         × AreLoadFindings plan timing findings }
 {}

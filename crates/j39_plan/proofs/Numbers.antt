@@ -76,7 +76,8 @@ few_if false rest none = cc
 -- a table that isn't refused has few names
 pub few_names : (limit : ℕ) (es : List (String Global × Value)) → names_cause limit (members_view es) ≡ None → length es ≤ value_limit
 few_names limit es none =
-    rw (members_count_view es) at (leb-true (members_count (members_view es)) value_limit (few_if (nat_le (members_count (members_view es)) value_limit) _ none))
+    rw (members_count_view es) at (leb-true (members_count (members_view es)) value_limit
+    (few_if (nat_le (members_count (members_view es)) value_limit) _ none))
 
 -- one more name is read
 pub one_more_name : (all rest : Members) (k : List ℕ) (d : Data) (so_far : List ValueName) (n : ValueName)

@@ -36,7 +36,8 @@ signals_texts_stated version no_items (g ∷ gs) each = absurd each
 signals_texts_stated version (item d ds) [] each = absurd each
 signals_texts_stated version (item d ds) (g ∷ gs) each =
     rw (
-      labels_stated (IsSignalOf version) label_in (λ s. s.label.bytes) (λ e s is. is.has_label) (tables_of signal_rule (inside d)) g.signals.items each.0.has_signals,
+      labels_stated (IsSignalOf version) label_in (λ s. s.label.bytes) (λ e s is. is.has_label)
+          (tables_of signal_rule (inside d)) g.signals.items each.0.has_signals,
       signals_texts_stated version ds gs each.1,
     )
 

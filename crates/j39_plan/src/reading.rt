@@ -49,7 +49,8 @@ pub use version::Version;
 /// The plan that a tree describes, or its first fault.
 #[tactic(auto, using(j39_toml::proofs::FirstFaults::faults_after))]
 pub fn read_top(alloc: Global, members: &toml::Table) -> Result<Plan, PlanError>
-    ensures { GivesGrowing (PlanGrows (table_view members.now)) result (faults (table_view members.now)) (DescribesPlan (table_view members.now)) }
+    ensures { GivesGrowing (PlanGrows (table_view members.now)) result (faults (table_view members.now))
+        (DescribesPlan (table_view members.now)) }
 {
     let version = version_of(members);
     let top = top(members)?;

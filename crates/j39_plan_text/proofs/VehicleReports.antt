@@ -138,7 +138,8 @@ module _ (plan vehicle : Plan) (is : IsVehicleOf plan vehicle) (apart : AreDisti
   addresses_alike holds text Refused report = absurd report
   addresses_alike holds text Unreadable report = absurd report
 
-  module _ (timing : Timing) (stays stated : UnitPlan → Bool) (delays : List (Option Delay)) (same : asked_of timing plan stays ≡ asked_of timing vehicle stated)
+  module _ (timing : Timing) (stays stated : UnitPlan → Bool) (delays : List (Option Delay))
+      (same : asked_of timing plan stays ≡ asked_of timing vehicle stated)
       (text : List ℕ) (verdict : Verdict) where
     abbrev others_by : Plan → Asked → List LoadFinding
     others_by p asked = all_findings p timing (total_load timing asked) delays
@@ -204,5 +205,6 @@ module _ (plan vehicle : Plan) (is : IsVehicleOf plan vehicle) (apart : AreDisti
     check = check_alike;
     addresses = addresses_alike holds;
     load = λ text verdict report.
-        subst (λ (timing : Option Timing). IsLoadReport vehicle timing text verdict) (sym (timing_alike plan vehicle is apart)) (load_of_timing (timing_of plan) text verdict report);
+        subst (λ (timing : Option Timing). IsLoadReport vehicle timing text verdict) (sym (timing_alike plan vehicle is apart))
+        (load_of_timing (timing_of plan) text verdict report);
   }

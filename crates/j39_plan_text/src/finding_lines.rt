@@ -1,6 +1,7 @@
 //! The lines of findings.
 ghost use Rattle.std.specs.Prelude.{◌≡◌, ◌++◌, OnOk};
-ghost use Rattle.j39_plan_text.specs.FindingLines.{finding_line, finding_lines, finding_report, finding_text, is_between, labels_number_text};
+ghost use Rattle.j39_plan_text.specs.FindingLines.{finding_line, finding_lines, finding_report, finding_text};
+ghost use Rattle.j39_plan_text.specs.FindingLines.{is_between, labels_number_text};
 ghost use Rattle.j39_plan_text.specs.FindingLines.{run_lines, signals_text};
 
 use crate::each::{WriteLines, write_each};

@@ -34,7 +34,8 @@ pub fn line_text<S: Source, W: Sink>(
     source: &mut S,
     sink: &mut W,
 ) -> Result<Option<ProductLine>, Fault>
-    ensures answers { AnswersWhole IsLineText IsRefusedText plan_limits (S.state source.old) (S.state source.new) W.state sink.old sink.new result }
+    ensures answers { AnswersWhole IsLineText IsRefusedText plan_limits (S.state source.old)
+        (S.state source.new) W.state sink.old sink.new result }
     ensures writes_nothing { IfOk result (λ line. OnSome line (sink.new ≡ sink.old)) }
 {
     let input = read_whole(alloc, source)?;

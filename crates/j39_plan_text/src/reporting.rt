@@ -43,7 +43,8 @@ pub fn report_text<R: LineReport, S: Source, W: Sink>(
     source: &mut S,
     sink: &mut W,
 ) -> CommandResult
-    ensures { AnswersWhole (IsReportedText (R.says report.now)) (IsOfAny (IsReportedText (R.says report.now))) plan_limits (S.state source.old) (S.state source.new)
+    ensures { AnswersWhole (IsReportedText (R.says report.now))
+        (IsOfAny (IsReportedText (R.says report.now))) plan_limits (S.state source.old) (S.state source.new)
         W.state sink.old sink.new result }
 {
     match line_text(alloc, source, sink)? {

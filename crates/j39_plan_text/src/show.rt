@@ -29,7 +29,8 @@ impl LineReport for ShowReport {
 /// whatever is wrong with the plan; or why the file describes none.
 #[inline(never)]
 pub fn show_text<S: Source, W: Sink>(alloc: Global, source: &mut S, sink: &mut W) -> CommandResult
-    ensures { AnswersWhole IsShowText (IsOfAny IsShowText) plan_limits (S.state source.old) (S.state source.new) W.state sink.old sink.new result }
+    ensures { AnswersWhole IsShowText (IsOfAny IsShowText) plan_limits (S.state source.old)
+        (S.state source.new) W.state sink.old sink.new result }
 {
     report_text(alloc, &ShowReport, source, sink)
 }

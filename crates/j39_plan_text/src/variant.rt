@@ -103,7 +103,8 @@ pub fn variant_text<S: Source, W: Sink>(
     sink: &mut W,
 ) -> CommandResult
     ensures { let words = map string_bytes labels.now in
-        AnswersWhole (IsVariantText words) (IsOfAny (IsVariantText words)) plan_limits (S.state source.old) (S.state source.new) W.state sink.old sink.new result }
+        AnswersWhole (IsVariantText words) (IsOfAny (IsVariantText words)) plan_limits (S.state source.old)
+        (S.state source.new) W.state sink.old sink.new result }
 {
     report_text(alloc, &VariantReport { labels }, source, sink)
 }

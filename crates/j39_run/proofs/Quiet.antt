@@ -37,7 +37,10 @@ requests [] none = refl
 requests (AddressClaimed (Claim a) ∷ items) none = absurd (none.0 a (here (AddressClaimed (Claim a)) items))
 requests (AddressClaimed Cannot ∷ items) none = absurd (none.1 (here (AddressClaimed Cannot) items))
 requests (Request ∷ items) none =
-    requests items ((λ a there. none.0 a (behind Request items (AddressClaimed (Claim a)) there)), (λ there. none.1 (behind Request items (AddressClaimed Cannot) there)))
+    requests items (
+      (λ a there. none.0 a (behind Request items (AddressClaimed (Claim a)) there)),
+      (λ there. none.1 (behind Request items (AddressClaimed Cannot) there)),
+    )
 
 -- a test holds of all elements where it holds at each place, and past the last
 at_each : {X : Type 0} (p : X → Bool) (xs : List X) (d : X) → p d ≡ true → list_all p xs ≡ true → (k : ℕ) → p (get_or xs k d) ≡ true

@@ -118,14 +118,16 @@ module _ {X : Type 0} {P : X → Type 0} (plan : Plan) (old : Running X P) (goes
 -- no line came
 pub same_run : {X : Type 0} {P : X → Type 0} (plan : Plan) (old : Running X P) (ls : List Line) → ls ≡ [] → RunsOn plan old old ls
 same_run plan old ls none = record {
-  run = λ yielded written run. subst (λ (t : List Line). HasRun plan old t written) (sym (append-nil yielded) ∙ ap (λ (m : List Line). yielded ++ m) (sym none)) run;
+  run = λ yielded written run. subst (λ (t : List Line). HasRun plan old t written)
+      (sym (append-nil yielded) ∙ ap (λ (m : List Line). yielded ++ m) (sym none)) run;
   count = omega arith;
 }
 
 stopped_on : (plan : Plan) (b : BusState) (place : ℕ) (text : List ℕ) (halt : Halt) (yielded more : List Line) (written : List ℕ) → is_running halt ≡ false
     → HasRunTo plan b place text halt yielded written → HasRunTo plan b place text halt (yielded ++ more) written
 stopped_on plan b place text End yielded more written stopped run = cc stopped
-stopped_on plan b place text (AtStep at cause) yielded more written stopped run = still_stopped plan b (IsRefusedStep plan b cause) at text yielded more written run
+stopped_on plan b place text (AtStep at cause) yielded more written stopped run = still_stopped plan b
+    (IsRefusedStep plan b cause) at text yielded more written run
 stopped_on plan b place text (AtLine at fault) yielded more written stopped run =
     still_stopped plan b (λ reading. reading ≡ Err fault) at text yielded more written run
 stopped_on plan b place text (Full at) yielded more written stopped run = still_stopped plan b (IsStepTooMany b) at text yielded more written run

@@ -36,7 +36,8 @@ pub fn run_text<S: Source, W: Sink>(
     source: &mut S,
     sink: &mut W,
 ) -> CommandResult
-    ensures answers { AnswersInPieces (IsRunText plan.now (length choosers.items)) plan_limits (S.state source.old) (S.state source.new)
+    ensures answers { AnswersInPieces (IsRunText plan.now (length choosers.items)) plan_limits (S.state source.old)
+        (S.state source.new)
         W.state sink.old sink.new result }
 
     // The text is that of all that the source had left at the call, however much of it was read.

@@ -129,7 +129,8 @@ module _ (plan : Plan) (m : NeededMessage plan) where
       → reported after.reports m.need.unit m.flow.sender
       ≡ reported w.reports m.need.unit m.flow.sender ++ record { flow = m.place; bytes = bytes_of m } ∷ []
   from_arrival w after flow meant outcome here same has =
-      let arrived : HasArrived w after m.flow.sender (outgoing (count_of plan) w.stations m.place (flow_of plan.groups.items m.flow) (bytes_of m)) meant outcome =
+      let arrived : HasArrived w after m.flow.sender (outgoing (count_of plan) w.stations m.place (flow_of plan.groups.items m.flow)
+      (bytes_of m)) meant outcome =
       subst (λ (f : Flow). HasArrived w after f.sender (outgoing (count_of plan) w.stations m.place f (bytes_of m)) meant outcome) same has in
       arrived.reports m.need.unit here
 

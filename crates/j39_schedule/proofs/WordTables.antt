@@ -21,4 +21,5 @@ pub named : (words : List (Bor (List ℕ) × OrderWord)) (text : List ℕ) (word
     → option_map order_word word ≡ order_named text
 unfolding beside order_named
 named words text word is are =
-    ap (option_map order_word) is ∙ found words text ∙ ap (λ (os : List (List ℕ × Order)). option_map (λ (o : List ℕ × Order). o.1) (find (λ (o : List ℕ × Order). bytes_eq o.0 text) os)) are
+    ap (option_map order_word) is ∙ found words text ∙ ap (λ (os : List (List ℕ × Order)). option_map (λ (o : List ℕ × Order). o.1)
+    (find (λ (o : List ℕ × Order). bytes_eq o.0 text) os)) are

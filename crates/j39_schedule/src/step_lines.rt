@@ -17,7 +17,8 @@ fn write_unit(text: &mut TextBuffer, word: &str, plan: &Plan, unit: usize) -> Wr
 
 // A word, the number of a flow, and bytes.
 fn write_message(text: &mut TextBuffer, word: &str, flow: usize, bytes: &Vec<u8>) -> WriteResult
-    ensures { OnOk result (text.new ≡ text.old ++ (place_field word.now flow ++ (codes " " ++ encode_upper bytes.now.items))) }
+    ensures { OnOk result (text.new ≡ text.old ++ (place_field word.now flow
+        ++ (codes " " ++ encode_upper bytes.now.items))) }
 {
     text.place(word, flow)?;
     text.word(" ")?;

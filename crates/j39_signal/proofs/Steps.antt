@@ -118,7 +118,8 @@ pub none_below : (s : SignalParts) (v : ℤ) (d n : ℕ) → d ≡ unsigned_abs 
     → ((r : ℕ) → IsValue s r → is_negative s.kind s.bits r ≡ true → 2 ^ s.bits - r ≢ d / n) → (r : ℕ) → ¬ IsRawOf s v r
 none_below s v d n is_distance is_step some below none r raw =
     elim (cases_Bool (is_negative s.kind s.bits r)) [
-      | inl down ↦ none r raw.0 down (steps_down s v d n (2 ^ s.bits - r) is_distance is_step some (below_width s r down raw.0) (sym raw.1 ∙ value_down s r down)).1
+      | inl down ↦ none r raw.0 down (steps_down s v d n (2 ^ s.bits - r) is_distance is_step some (below_width s r down raw.0)
+          (sym raw.1 ∙ value_down s r down)).1
       | inr up ↦
           let is = steps_up s v d n r is_distance is_step some (sym raw.1 ∙ value_up s r up) in
           absurd (omega (arith, ints, below, is.0))

@@ -10,8 +10,8 @@ use std::marker::Model;
 // 2^23 * 5^10, the greatest powers of both up to 10,000,000.
 const DECIMAL_MULTIPLE: u64 = 81_920_000_000_000;
 
-/// A signal of a parameter group: its label, its place in the payload, and how its raw number is scaled. Its numbers are
-/// in range.
+/// A signal of a parameter group: its label, its place in the payload, and how its raw number is scaled. Its numbers
+/// are in range.
 #[derive(Clone, Copy)]
 pub struct Signal {
     parts: SignalParts,

@@ -3,8 +3,8 @@
 use crate::Kind;
 use j39_id::Label;
 
-/// The parts of a signal, in range or not. One that is repeated comes again in further records, and one that is optional
-/// stands only in messages that are long enough.
+/// The parts of a signal, in range or not. One that is repeated comes again in further records, and one that is
+/// optional stands only in messages that are long enough.
 #[derive(Clone, Copy)]
 pub struct SignalParts {
     pub(crate) label: Label,

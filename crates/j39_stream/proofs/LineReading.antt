@@ -214,7 +214,8 @@ module _ {Read : List Line → List ℕ → Type 0} {IsText Last : List ℕ → 
           subst (Consumes old.left new.left) (sym (append-nil h.input)) h.consumed,
           says h.input (h.written ++ (text ++ end)) verdict is_text,
           part_after (state yielded_to).taken (state middle).taken (state middle).taken h.written [] (text ++ end) (h.written ++ (text ++ end)) refl
-              (subst (λ (s : SinkState). Appends s.taken (state middle).taken h.written) at (subst (λ (s : SinkState). Appends x.taken s.taken h.written) here h.taken))
+              (subst (λ (s : SinkState). Appends s.taken (state middle).taken h.written) at
+              (subst (λ (s : SinkState). Appends x.taken s.taken h.written) here h.taken))
               (0, none_taken (state middle).taken),
         );
       }
@@ -262,7 +263,8 @@ module _ {Read : List Line → List ℕ → Type 0} {IsText Last : List ℕ → 
           h.consumed,
           (λ is. h.end (done is)),
           of_text h.input all_of_it,
-          subst (λ (s : SinkState). Appends s.taken (state ended).taken (h.written ++ closing)) at (Appends-trans x.taken y.taken (state ended).taken h.written closing h.taken put),
+          subst (λ (s : SinkState). Appends s.taken (state ended).taken (h.written ++ closing)) at
+              (Appends-trans x.taken y.taken (state ended).taken h.written closing h.taken put),
         );
         pieces = pieces;
         limits = h.limits;

@@ -69,7 +69,8 @@ front_more seen b before =
             seen ++ b ∷ [],
             [],
             sym (append-nil (seen ++ b ∷ [])),
-            sym (yields_lines (seen ++ b ∷ [])) ∙ ap (λ (u : List Line). yielded at_start (seen ++ b ∷ []) ++ u) end ∙ append-nil (yielded at_start (seen ++ b ∷ [])),
+            sym (yields_lines (seen ++ b ∷ [])) ∙ ap (λ (u : List Line). yielded at_start (seen ++ b ∷ []) ++ u) end ∙ append-nil
+                (yielded at_start (seen ++ b ∷ [])),
           )
     ]
 

@@ -44,14 +44,18 @@ fn read_all<R: LineReader, S: Source, W: Sink>(
     source: &mut S,
     sink: &mut W,
 ) -> Result<(), Fault>
-    requires begins { IsSoFar (R.has_read reader.old) (R.is_text reader.old) (R.goes reader.old) (R.text reader.old) [] [] }
+    requires begins { IsSoFar (R.has_read reader.old) (R.is_text reader.old) (R.goes reader.old)
+        (R.text reader.old) [] [] }
     requires count { R.within reader.old 0 }
     requires bytes { limits.bytes ≤ 2 ^ 62 }
-    ensures read { OnOk result (HasReadInput (R.has_read reader.new) (R.is_text reader.new) (R.goes reader.new) (R.text reader.new) limits
+    ensures read { OnOk result (HasReadInput (R.has_read reader.new) (R.is_text reader.new) (R.goes reader.new)
+        (R.text reader.new) limits
         (S.state source.old) (S.state source.new) (W.state sink.old) (W.state sink.new)) }
-    ensures pieces { OnOk result (EndsWithItsPiece (R.is_text reader.old) (S.state source.old).left (S.state source.new).left) }
+    ensures pieces { OnOk result (EndsWithItsPiece (R.is_text reader.old) (S.state source.old).left
+        (S.state source.new).left) }
     ensures texts { OnOk result (AreTextsOf (R.is_text reader.new) (R.is_text reader.old)) }
-    ensures cut { IfErr result (IsCutOff (R.is_text reader.old) limits (S.state source.old) (S.state source.new) (W.state sink.old)
+    ensures cut { IfErr result (IsCutOff (R.is_text reader.old) limits (S.state source.old) (S.state source.new)
+        (W.state sink.old)
         (W.state sink.new)) }
 {
     let mut cutter = Cutter::new();
@@ -78,10 +82,12 @@ pub fn read_lines<R: LineReader, S: Source, W: Sink>(
     source: &mut S,
     sink: &mut W,
 ) -> CommandResult
-    requires begins { IsSoFar (R.has_read reader.old) (R.is_text reader.old) (R.goes reader.old) (R.text reader.old) [] [] }
+    requires begins { IsSoFar (R.has_read reader.old) (R.is_text reader.old) (R.goes reader.old)
+        (R.text reader.old) [] [] }
     requires count { R.within reader.old 0 }
     requires bytes { limits.bytes ≤ 2 ^ 62 }
-    ensures answers { AnswersInPieces (R.is_text reader.old) limits (S.state source.old) (S.state source.new) W.state sink.old sink.new result }
+    ensures answers { AnswersInPieces (R.is_text reader.old) limits (S.state source.old)
+        (S.state source.new) W.state sink.old sink.new result }
 
     // The text is that of all that the source had left at the call, however much of it was read.
     ensures whole { IfOk result (λ verdict. (all : List ℕ) → (S.state source.old).left ≡ Some all → (text : List ℕ)

@@ -60,7 +60,8 @@ whole-part n per some =
     let less : m < 10 ^ most_decimals =
     div_below (n % per * 10 ^ most_decimals) per (10 ^ most_decimals) some (below-product (n % per) per (10 ^ most_decimals) left (ten most_decimals)) in
     let order : finest n per ≡ 10 ^ most_decimals * (n / per) + m = finest-parted n per some ∙ turned (n / per) (10 ^ most_decimals) m in
-    ap (λ k. k / 10 ^ most_decimals) order ∙ mul-add-div (ten most_decimals) (n / per) m ∙ ap (λ k. n / per + k) (none-of m (10 ^ most_decimals) less) ∙ omega arith
+    ap (λ k. k / 10 ^ most_decimals) order ∙ mul-add-div (ten most_decimals) (n / per) m ∙ ap (λ k. n / per + k)
+    (none-of m (10 ^ most_decimals) less) ∙ omega arith
 
 rest-digits : (n per : ℕ) → 0 < per → last_digits most_decimals (finest n per) ≡ last_digits most_decimals (n % per * 10 ^ most_decimals / per)
 rest-digits n per some =
@@ -87,7 +88,8 @@ whole-text n per some none =
     let zero-is : n % per * 10 ^ most_decimals / per ≡ 0 = ap (λ r. r * 10 ^ most_decimals / per) none ∙ zero-over per some in
     parts n per some
     ∙ ap (λ (ds : List ℕ). decimal (n / per) ++ ds)
-    (no-point (without_zeros (last_digits most_decimals (n % per * 10 ^ most_decimals / per))) (ap (λ m. without_zeros (last_digits most_decimals m)) zero-is ∙ zero-none most_decimals))
+    (no-point (without_zeros (last_digits most_decimals (n % per * 10 ^ most_decimals / per)))
+    (ap (λ m. without_zeros (last_digits most_decimals m)) zero-is ∙ zero-none most_decimals))
     ∙ append-nil (decimal (n / per))
 
 pub point-text : (n per : ℕ) → IsDivisor per → 0 < n % per
@@ -97,7 +99,8 @@ point-text n per is left =
     let proper : n % per < per = omega arith in
     parts n per some
     ∙ ap (λ (ds : List ℕ). decimal (n / per) ++ ds)
-    (a-point _ (without_zeros (last_digits most_decimals (n % per * 10 ^ most_decimals / per))) _ (one-more (n % per) per 22 left proper (whole (n % per) per is)))
+    (a-point _ (without_zeros (last_digits most_decimals (n % per * 10 ^ most_decimals / per))) _
+    (one-more (n % per) per 22 left proper (whole (n % per) per is)))
 
 by-one : (n : ℕ) → magnitude_text 1 n ≡ decimal n
 by-one n = whole-text n 1 (omega arith) (omega arith) ∙ ap decimal (omega arith)

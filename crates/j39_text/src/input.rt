@@ -30,7 +30,8 @@ fn first_line(input: &[u8]) -> &[u8]
 
 /// Writes what the first line of the input spells, or why it is refused.
 pub fn input_text<S: Source, W: Sink>(alloc: Global, source: &mut S, sink: &mut W) -> CommandResult
-    ensures { AnswersWhole IsInputText (IsOfAny IsInputText) plan_limits (S.state source.old) (S.state source.new) W.state sink.old sink.new result }
+    ensures { AnswersWhole IsInputText (IsOfAny IsInputText) plan_limits (S.state source.old)
+        (S.state source.new) W.state sink.old sink.new result }
 {
     let input = read_whole(alloc, source)?;
     frame_text(alloc, first_line(input.as_slice()), sink)

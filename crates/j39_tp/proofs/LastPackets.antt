@@ -20,7 +20,8 @@ use Rattle.j39_tp.specs.declared.receiving.reception.Reception.{Reception}
 
 -- ---- what completes nothing
 
-quiet_if : (b : Bool) (x y : Progress × Heard) (u : List ℕ) → size_announced x.1 u ≡ None → size_announced y.1 u ≡ None → size_announced (if b then x else y).1 u ≡ None
+quiet_if : (b : Bool) (x y : Progress × Heard) (u : List ℕ) → size_announced x.1 u ≡ None → size_announced y.1 u ≡ None
+    → size_announced (if b then x else y).1 u ≡ None
 quiet_if true x y u h k = h
 quiet_if false x y u h k = k
 
@@ -58,7 +59,8 @@ whole bytes chunk size held l c last =
 
 data_stated : (m : Manner) (r : Reception) (number : ℕ) (bytes chunk : List ℕ) → length bytes ≡ 7 * r.held → length chunk ≡ 7 → (next last : Bool)
     → (number == r.held + 1) ≡ next → (r.held + 1 == packets_of r.size) ≡ last
-    → last_size (Open r) (Dt number chunk) ≡ size_announced (takes_data m r number).1 (bytes_at (takes_data m r number).0 (grown (Open r) (Dt number chunk) bytes))
+    → last_size (Open r) (Dt number chunk) ≡ size_announced (takes_data m r number).1
+    (bytes_at (takes_data m r number).0 (grown (Open r) (Dt number chunk) bytes))
 data_stated m r number bytes chunk l c true true next_is last_is =
     let all : length (take r.size (bytes ++ chunk)) ≡ r.size = whole bytes chunk r.size r.held l c (eqb-true (r.held + 1) (packets_of r.size) last_is) in
     rw (next_is, last_is) (ap Some (sym all) ∙ sym (complete_stated m r.kind r (take r.size (bytes ++ chunk))))

@@ -52,7 +52,8 @@ pub fn receivers_gather_what_they_hear()
 pub fn honest_packets_carry_their_message()
     ensures announced { (h : List Packet) (pgn : ℕ) (bytes : List ℕ) (p : Packet) → AnnouncesMessage pgn bytes p
         → StatesLast (h ++ p ∷ []) pgn bytes }
-    ensures goes_on { (h : List Packet) (pgn : ℕ) (bytes : List ℕ) (p : Packet) → GoesOn bytes p → StatesLast h pgn bytes
+    ensures goes_on { (h : List Packet) (pgn : ℕ) (bytes : List ℕ) (p : Packet) → GoesOn bytes p
+        → StatesLast h pgn bytes
         → StatesLast (h ++ p ∷ []) pgn bytes }
     ensures carries { CarriesItsMessage }
 {}

@@ -75,7 +75,8 @@ none_next within holes near taken less none v out begins =
     let n = length-map within (λ choice. choice.items) in
     let long = within_length (box_flags within) v out.in_box in
     none (slice_index v (length taken))
-    (below_flags (flags_at (box_flags within) (length taken)) (slice_index v (length taken)) (within_at (box_flags within) v out.in_box (length taken) (omega (arith, n))))
+    (below_flags (flags_at (box_flags within) (length taken)) (slice_index v (length taken))
+    (within_at (box_flags within) v out.in_box (length taken) (omega (arith, n))))
     v out (begins_more taken v begins (omega (arith, n, long)))
 
 -- ---- the first variant
@@ -93,7 +94,8 @@ pub first_none : (within : List (Vec Bool Global)) (holes : List (Vec (Vec Bool 
     → IsFirstTo within holes near []
 first_none within holes near (v, out) = record { few = omega arith; one = (v, out, tt); first = λ w is earlier. not_earlier_none w earlier }
 
-earlier_parts : (v taken : List ℕ) (place : ℕ) → IsEarlier v (taken ++ place ∷ []) → IsEarlier v taken ⊎ ((q : ℕ) × (q < place) × StartsWith (taken ++ q ∷ []) v)
+earlier_parts : (v taken : List ℕ) (place : ℕ) → IsEarlier v (taken ++ place ∷ []) → IsEarlier v taken
+    ⊎ ((q : ℕ) × (q < place) × StartsWith (taken ++ q ∷ []) v)
 earlier_parts [] [] place is = absurd is
 earlier_parts [] (p ∷ taken) place is = absurd is
 earlier_parts (q ∷ v) [] place (inl less) = inr (q, less, (refl, tt))
@@ -104,7 +106,8 @@ earlier_parts (q ∷ v) (p ∷ taken) place (inr (same, rest)) = elim (earlier_p
   | inr (r, less, begins) ↦ inr (r, less, (sym same, begins))
 ]
 
-pub first_more : (within : List (Vec Bool Global)) (holes : List (Vec (Vec Bool Global) Global)) (near taken : List ℕ) (place : ℕ) → length taken < length within
+pub first_more : (within : List (Vec Bool Global)) (holes : List (Vec (Vec Bool Global) Global)) (near taken : List ℕ) (place : ℕ)
+    → length taken < length within
     → IsFirstTo within holes near taken → IsNextPlace within holes near taken place → IsFirstTo within holes near (taken ++ place ∷ [])
 first_more within holes near taken place less before next = record {
   few = let n = length-append taken (place ∷ []) in omega (arith, n);
@@ -143,11 +146,13 @@ any_boxes v (h ∷ holes) = ap (λ b. is_in_box (box_flags h.items) v || b) (any
 module _ (within : List (Vec Bool Global)) (holes : List (Vec (Vec Bool Global) Global)) (near : List ℕ)
     (same : AreMet within holes (range_with_len 0 (length holes)) near) where
   all_near : (v : List ℕ)
-      → list_any (λ place. is_in_box (box_flags (hole_at holes place)) v) (range_with_len 0 (length holes)) ≡ list_any (λ hole. is_in_box hole v) (boxes_flags holes)
+      → list_any (λ place. is_in_box (box_flags (hole_at holes place)) v) (range_with_len 0 (length holes)) ≡ list_any (λ hole. is_in_box hole v)
+      (boxes_flags holes)
   all_near v = any_places (λ hole. is_in_box (box_flags hole) v) holes ∙ any_boxes v holes
 
   from_near : (v : List ℕ) → IsOutsideNear within holes near v → IsOutsideBoxes (box_flags within) (boxes_flags holes) v
-  from_near v is = let out = to_near within holes (range_with_len 0 (length holes)) near same v is in record { in_box = out.in_box; in_none = sym (all_near v) ∙ out.in_none }
+  from_near v is = let out = to_near within holes (range_with_len 0 (length holes)) near same v is
+      in record { in_box = out.in_box; in_none = sym (all_near v) ∙ out.in_none }
 
   to_these : (v : List ℕ) → IsOutsideBoxes (box_flags within) (boxes_flags holes) v → IsOutsideNear within holes near v
   to_these v is = to_met within holes (range_with_len 0 (length holes)) near same v (record { in_box = is.in_box; in_none = all_near v ∙ is.in_none })
@@ -155,7 +160,8 @@ module _ (within : List (Vec Bool Global)) (holes : List (Vec (Vec Bool Global) 
   pub none_outside : HasNoneOutside within holes near → NoneOutside (box_flags within) (boxes_flags holes)
   none_outside none v is = none v (to_these v is)
 
-  pub first_outside_of : (taken : List ℕ) → length within ≤ length taken → IsFirstTo within holes near taken → IsFirstOutside (box_flags within) (boxes_flags holes) taken
+  pub first_outside_of : (taken : List ℕ) → length within ≤ length taken → IsFirstTo within holes near taken
+      → IsFirstOutside (box_flags within) (boxes_flags holes) taken
   first_outside_of taken whole is =
       let n = length-map within (λ choice. choice.items) in
       let few = is.few in

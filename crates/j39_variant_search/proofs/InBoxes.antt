@@ -1,5 +1,6 @@
 -- Flags of choices, and variants in boxes.
-use Rattle.std.proofs.Common.{◌≡◌, ℕ, zero, suc, ◌+◌, ◌<◌, ◌==◌, List, [], ◌∷◌, Bool, true, false, ◌&&◌, ◌||◌, not, length, map, refl, sym, ap, ◌∙◌, arith, rules}
+use Rattle.std.proofs.Common.{◌≡◌, ℕ, zero, suc, ◌+◌, ◌<◌, ◌==◌, List, [], ◌∷◌, Bool, true, false, ◌&&◌, ◌||◌, not, length, map, refl, sym, ap, ◌∙◌, arith}
+use Rattle.std.proofs.Common.{rules}
 use Rattle.std.specs.declared.alloc.Global.{Global}
 use Rattle.std.specs.Prelude.{Vec, filter, slice_index}
 use Rattle.std.specs.List.{enumerate_from, list_all, list_any, range_with_len}
@@ -74,7 +75,8 @@ not_left_from : (n : ℕ) (one other : List Bool) (place : ℕ) → list_any (λ
 not_left_from n [] other place none here = absurd (false≢true here)
 not_left_from n (true ∷ one) other zero none here =
     let e : n + 0 ≡ n = omega arith in
-    rw e (holds (flag_at other n) (or_parts (not (flag_at other n)) (list_any (λ at. at.1 && not (flag_at other at.0)) (enumerate_from (n + 1) one)) none).0) where
+    rw e (holds (flag_at other n) (or_parts (not (flag_at other n))
+    (list_any (λ at. at.1 && not (flag_at other at.0)) (enumerate_from (n + 1) one)) none).0) where
       holds : (b : Bool) → not b ≡ false → b ≡ true
       holds true is = refl
       holds false is = absurd (false≢true (sym is))
@@ -106,7 +108,8 @@ within_length [] (p ∷ v) is = absurd (false≢true is)
 within_length (f ∷ within) [] is = absurd (false≢true is)
 within_length (f ∷ within) (p ∷ v) is = let rest = within_length within v (and_parts (flag_at f p) (is_in_box within v) is).1 in omega (arith, rest)
 
-pub within_at : (within : List (List Bool)) (v : List ℕ) → is_in_box within v ≡ true → (k : ℕ) → k < length within → has_alternative within k (slice_index v k) ≡ true
+pub within_at : (within : List (List Bool)) (v : List ℕ) → is_in_box within v ≡ true → (k : ℕ) → k < length within
+    → has_alternative within k (slice_index v k) ≡ true
 within_at [] v is k below = absurd (omega arith)
 within_at (f ∷ within) [] is k below = absurd (false≢true is)
 within_at (f ∷ within) (p ∷ v) is zero below = (and_parts (flag_at f p) (is_in_box within v) is).0
@@ -182,13 +185,15 @@ met_at within hole is k below =
 share_all : (within hole : List (Vec Bool Global)) (v : List ℕ) → is_in_box (box_flags within) v ≡ true → is_in_box (box_flags hole) v ≡ true
     → length within ≡ length hole → (k : ℕ) → k < length within → is_common (flags_at (box_flags within) k) (flags_at (box_flags hole) k) ≡ true
 share_all within hole v inside also same k below = go (is_common (flags_at (box_flags within) k) (flags_at (box_flags hole) k)) refl where
-  go : (b : Bool) → is_common (flags_at (box_flags within) k) (flags_at (box_flags hole) k) ≡ b → is_common (flags_at (box_flags within) k) (flags_at (box_flags hole) k) ≡ true
+  go : (b : Bool) → is_common (flags_at (box_flags within) k) (flags_at (box_flags hole) k) ≡ b → is_common (flags_at (box_flags within) k)
+      (flags_at (box_flags hole) k) ≡ true
   go true is = is
   go false none =
       let n = length-map within (λ choice. choice.items) in
       let m = length-map hole (λ choice. choice.items) in
       absurd
-      (not_shared (flags_at (box_flags within) k) (flags_at (box_flags hole) k) (slice_index v k) none (within_at (box_flags within) v inside k (omega (arith, n)))
+      (not_shared (flags_at (box_flags within) k) (flags_at (box_flags hole) k) (slice_index v k) none
+      (within_at (box_flags within) v inside k (omega (arith, n)))
       (within_at (box_flags hole) v also k (omega (arith, m))))
 
 pub eqb_same : (a b : ℕ) → a ≡ b → (a == b) ≡ true

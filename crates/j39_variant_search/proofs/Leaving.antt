@@ -28,7 +28,8 @@ leaves_later f hole p v here (first, below, is) = (suc first, omega arith, recor
   earlier (suc k) less = is.before k (omega arith)
 
 -- each variant that isn't in a hole leaves it
-pub leaves : (hole : List (List Bool)) (v : List ℕ) → length v ≡ length hole → is_in_box hole v ≡ false → (first : ℕ) × (first < length hole) × Leaves hole first v
+pub leaves : (hole : List (List Bool)) (v : List ℕ) → length v ≡ length hole → is_in_box hole v ≡ false → (first : ℕ) × (first < length hole)
+    × Leaves hole first v
 leaves [] [] same out = absurd (false≢true (sym out))
 leaves [] (p ∷ v) same out = absurd (omega arith)
 leaves (f ∷ hole) [] same out = absurd (omega arith)
@@ -50,7 +51,8 @@ kept_behind first k b less = grind (arith, nat_tests)
 pub leaves_kept : (hole : List (List Bool)) (first : ℕ) (v : List ℕ) → Leaves hole first v → (k : ℕ) → is_behind hole first k (slice_index v k) ≡ true
 leaves_kept hole first v is k = elim (cases_order k first) [
   | inl same ↦
-      let here : is_behind hole first first (slice_index v first) ≡ true = kept_here first (has_alternative hole first (slice_index v first)) ∙ ap not is.here in
+      let here : is_behind hole first first (slice_index v first) ≡ true = kept_here first
+      (has_alternative hole first (slice_index v first)) ∙ ap not is.here in
       rw same here
   | inr (inl less) ↦ kept_before first k (has_alternative hole k (slice_index v k)) less ∙ is.before k less
   | inr (inr more) ↦ kept_behind first k (has_alternative hole k (slice_index v k)) more
@@ -81,8 +83,14 @@ module _ (within : List (Vec Bool Global)) (holes : List (Vec (Vec Bool Global) 
 
   pub none_met : length met ≡ 0 → is_empty_box within ≡ false → HasOutside within holes near
   none_met nothing full =
-      let (v, inside) = some_within within full in
-      (v, record { in_box = inside; in_none = sym (near_alike v inside) ∙ ap (list_any (λ place. is_in_box (box_flags (hole_at holes place)) v)) (empty_list met nothing) })
+      let (v, inside) = some_within within full in (
+        v,
+        record {
+          in_box = inside;
+          in_none = sym (near_alike v inside) ∙ ap (list_any (λ place. is_in_box (box_flags (hole_at holes place)) v))
+              (empty_list met nothing);
+        },
+      )
 
   pub one_met : (k : ℕ) → k < length met → is_met within (hole_at holes (slice_index met k)) ≡ true
   one_met k below =
@@ -92,7 +100,8 @@ module _ (within : List (Vec Bool Global)) (holes : List (Vec (Vec Bool Global) 
 -- ---- the parts of a box that leave a hole which it meets
 
 module _ (within hole : List (Vec Bool Global)) (meets : is_met within hole ≡ true) where
-  pub part_less : (first : ℕ) (part : List (Vec Bool Global)) → first < length within → IsBoxPart (is_behind (box_flags hole) first) (box_flags within) (box_flags part)
+  pub part_less : (first : ℕ) (part : List (Vec Bool Global)) → first < length within → IsBoxPart (is_behind (box_flags hole) first) (box_flags within)
+      (box_flags part)
       → box_count (box_flags part) < box_count (box_flags within)
   part_less first part below is =
       let n = length-map within (λ choice. choice.items) in

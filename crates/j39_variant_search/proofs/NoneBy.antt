@@ -1,5 +1,6 @@
 -- By which choices a part of a box has no variant outside.
-use Rattle.std.proofs.Common.{◌≡◌, ℕ, zero, suc, ◌+◌, ◌<◌, ◌≤◌, List, [], ◌∷◌, Bool, true, false, ◌&&◌, ◌||◌, not, map, length, refl, sym, ap, ◌∙◌, arith, below_more}
+use Rattle.std.proofs.Common.{◌≡◌, ℕ, zero, suc, ◌+◌, ◌<◌, ◌≤◌, List, [], ◌∷◌, Bool, true, false, ◌&&◌, ◌||◌, not, map, length, refl, sym, ap, ◌∙◌, arith}
+use Rattle.std.proofs.Common.{below_more}
 use Rattle.std.proofs.Common.{inl, inr}
 use Rattle.std.specs.declared.alloc.Global.{Global}
 use Rattle.std.specs.Prelude.{Vec, nat_le, slice_index}
@@ -10,7 +11,8 @@ use Rattle.std.proofs.lemmas.List.{length-map}
 use Rattle.j39_variants.specs.VariantPlans.{flag_at}
 use Rattle.j39_variant_search.specs.VariantSearch.{box_flags, is_in_box}
 use Rattle.j39_variant_search.specs.inside.BoxParts.{IsBoxPart, flags_at, has_alternative, has_some, hole_at, is_behind, is_empty_box, is_left_at, is_met}
-use Rattle.j39_variant_search.specs.inside.NearHoles.{HasNoneOutside, IsInBoxBy, IsNoneBy, IsOutsideNear, choices_inside, empty_choices, is_by_leaving, in_either}
+use Rattle.j39_variant_search.specs.inside.NearHoles.{HasNoneOutside, IsInBoxBy, IsNoneBy, IsOutsideNear, choices_inside, empty_choices, is_by_leaving}
+use Rattle.j39_variant_search.specs.inside.NearHoles.{in_either}
 use Rattle.j39_variant_search.proofs.InBoxes.{any_at, both_true, filter_none, met_length, no_flag, not_left, within_at, within_length}
 use Rattle.j39_variant_search.proofs.Leaving.{AreMet, Leaves, kept_before, kept_behind, leaves, leaves_kept}
 
@@ -55,7 +57,8 @@ at_most_true a b most = grind (arith, nat_tests)
 -- ---- a box of which some choice is empty
 
 none_of_empty : (within : List (Vec Bool Global)) (takes : ℕ → ℕ) → is_empty_box within ≡ true
-    → ((choice : ℕ) → choice < length (box_flags within) → flag_at (empty_choices within) choice ≡ true → has_alternative (box_flags within) choice (takes choice) ≡ true) → ⊥
+    → ((choice : ℕ) → choice < length (box_flags within) → flag_at (empty_choices within) choice ≡ true → has_alternative (box_flags within) choice
+    (takes choice) ≡ true) → ⊥
 none_of_empty [] takes is on = false≢true is
 none_of_empty (f ∷ within) takes is on =
     go (has_some f.items) refl
@@ -70,7 +73,8 @@ none_by_empty whole within holes near is v out on = none_of_empty within (slice_
 
 -- ---- the choices by which a hole is left, in turn
 
-pub record IsNoneTo (whole within hole : List (Vec Bool Global)) (holes : List (Vec (Vec Bool Global) Global)) (met : List ℕ) (by : List Bool) (n : ℕ) : Type 0 where
+pub record IsNoneTo (whole within hole : List (Vec Bool Global)) (holes : List (Vec (Vec Bool Global) Global)) (met : List ℕ) (by : List Bool)
+    (n : ℕ) : Type 0 where
   pub inside : (choice : ℕ) → choice < length within → is_left_at (box_flags within) (box_flags hole) choice ≡ false
       → is_left_at (box_flags whole) (box_flags hole) choice ≡ true → flag_at by choice ≡ true
   pub none : (first : ℕ) → first < n → (v : List ℕ) → IsOutsideNear whole holes met v → IsInBoxBy by (box_flags within) v → Leaves (box_flags hole) first v → ⊥
@@ -93,7 +97,8 @@ module _ (whole within hole : List (Vec Bool Global)) (holes : List (Vec (Vec Bo
       → IsNoneTo whole within hole holes met by n → IsNoneTo whole within hole holes met by (n + 1)
   none_to_kept by n same below kept before = record {
     inside = before.inside;
-    none = below_more (λ first. (v : List ℕ) → IsOutsideNear whole holes met v → IsInBoxBy by (box_flags within) v → Leaves (box_flags hole) first v → ⊥) n before.none here;
+    none = below_more (λ first. (v : List ℕ) → IsOutsideNear whole holes met v → IsInBoxBy by (box_flags within) v → Leaves (box_flags hole) first v
+        → ⊥) n before.none here;
   } where
     here : (v : List ℕ) → IsOutsideNear whole holes met v → IsInBoxBy by (box_flags within) v → Leaves (box_flags hole) n v → ⊥
     here v out on way = go (is_left_at (box_flags whole) (box_flags hole) n) refl where
@@ -106,14 +111,18 @@ module _ (whole within hole : List (Vec Bool Global)) (holes : List (Vec (Vec Bo
           false≢true (sym way.here ∙ has_hole whole n (slice_index v n) none (within_at (box_flags whole) v out.in_box n (omega (arith, m))))
 
   -- by one of which it goes beyond the hole
-  pub none_to_left : (by more : List Bool) (n : ℕ) (part : List (Vec Bool Global)) → IsBoxPart (is_behind (box_flags hole) n) (box_flags within) (box_flags part)
-      → IsNoneBy whole part holes met more → IsNoneTo whole within hole holes met by n → IsNoneTo whole within hole holes met (in_either (length within) by more) (n + 1)
+  pub none_to_left : (by more : List Bool) (n : ℕ) (part : List (Vec Bool Global)) → IsBoxPart (is_behind (box_flags hole) n) (box_flags within)
+      (box_flags part)
+      → IsNoneBy whole part holes met more → IsNoneTo whole within hole holes met by n
+      → IsNoneTo whole within hole holes met (in_either (length within) by more) (n + 1)
   none_to_left by more n part is none before = record {
     inside = λ choice below kept left.
-        flag_of (λ c. flag_at by c || flag_at more c) (length within) choice below ∙ or_left (flag_at by choice) (flag_at more choice) (before.inside choice below kept left);
+        flag_of (λ c. flag_at by c || flag_at more c) (length within) choice below ∙ or_left (flag_at by choice) (flag_at more choice)
+        (before.inside choice below kept left);
     none =
         below_more
-        (λ first. (v : List ℕ) → IsOutsideNear whole holes met v → IsInBoxBy (in_either (length within) by more) (box_flags within) v → Leaves (box_flags hole) first v → ⊥) n
+        (λ first. (v : List ℕ) → IsOutsideNear whole holes met v → IsInBoxBy (in_either (length within) by more) (box_flags within) v
+        → Leaves (box_flags hole) first v → ⊥) n
         earlier here;
   } where
     m : length (box_flags within) ≡ length within
@@ -137,7 +146,8 @@ module _ (whole within hole : List (Vec Bool Global)) (holes : List (Vec (Vec Bo
         flag_of (λ c. flag_at by c || flag_at more c) (length within) choice (let e = length-map within (λ choice. choice.items) in omega (arith, e, less))
         ∙ or_right (flag_at by choice) (flag_at more choice) flag in
         is.has_these choice (slice_index v choice) less
-        ∙ both_true (has_alternative (box_flags within) choice (slice_index v choice)) (is_behind (box_flags hole) n choice (slice_index v choice)) (on choice less joins)
+        ∙ both_true (has_alternative (box_flags within) choice (slice_index v choice)) (is_behind (box_flags hole) n choice (slice_index v choice))
+        (on choice less joins)
         (leaves_kept (box_flags hole) n v way choice))
 
   fewer_near : (near : List ℕ) → AreMet within holes near met → (v : List ℕ) → IsOutsideNear whole holes near v → IsOutsideNear whole holes met v
@@ -175,12 +185,14 @@ module _ (whole within hole : List (Vec Bool Global)) (holes : List (Vec (Vec Bo
         let m = length-map within (λ choice. choice.items) in
         let less : choice < length (box_flags within) = omega (arith, e, below) in
         is.has_these choice (slice_index v choice) less
-        ∙ both_true (has_alternative (box_flags within) choice (slice_index v choice)) (is_behind (box_flags hole) first choice (slice_index v choice)) (on choice less flag)
+        ∙ both_true (has_alternative (box_flags within) choice (slice_index v choice)) (is_behind (box_flags hole) first choice (slice_index v choice))
+        (on choice less flag)
         (stays choice (omega (arith, m, less)) flag (on choice less flag))
 
   -- a variant that leaves the hole by no choice is in it
   pub none_by_all : (near : List ℕ) (by : List Bool) (k n : ℕ) → AreMet within holes near met → length whole ≡ length within → is_met within hole ≡ true
-      → k < length met → hole ≡ hole_at holes (slice_index met k) → length within ≤ n → IsNoneTo whole within hole holes met by n → IsNoneBy whole within holes near by
+      → k < length met → hole ≡ hole_at holes (slice_index met k) → length within ≤ n → IsNoneTo whole within hole holes met by n
+      → IsNoneBy whole within holes near by
   none_by_all near by k n same alike meets below is all reported v out on =
       let w = length-map whole (λ choice. choice.items) in
       let m = length-map hole (λ choice. choice.items) in

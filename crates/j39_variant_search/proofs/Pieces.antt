@@ -38,7 +38,8 @@ flags_read (x ∷ within) (suc k) v below is = flags_read within k v (omega arit
 
 -- one choice more
 pub part_more : (n : ℕ) (test : ℕ → ℕ → Bool) (within : List (List Bool)) (part : List (Vec Bool Global)) (flags : List Bool) (v : Vec Bool Global)
-    → flags_at within n ≡ flags → v.items ≡ flags_with (test n) flags → IsPartTo n test within (box_flags part) → IsPartTo (n + 1) test within (box_flags (part ++ v ∷ []))
+    → flags_at within n ≡ flags → v.items ≡ flags_with (test n) flags → IsPartTo n test within (box_flags part)
+    → IsPartTo (n + 1) test within (box_flags (part ++ v ∷ []))
 part_more n test within part flags v here is before = record {
   of_each = let e = length-append (box_flags part) (v.items ∷ []) in let b = before.of_each in rw (flags_push part v) (omega (arith, e, b));
   has_these = λ k p below. rw (flags_push part v) (at k p (omega arith));
@@ -46,7 +47,8 @@ part_more n test within part flags v here is before = record {
   at : (k p : ℕ) → k ≤ n → flag_at (flags_at (box_flags part ++ v.items ∷ []) k) p ≡ (flag_at (flags_at within k) p && test k p)
   at k p most = elim (eq-or-lt_of_le most) [
     | inl same ↦
-        let last : flags_at (box_flags part ++ v.items ∷ []) k ≡ v.items = ap (flags_at (box_flags part ++ v.items ∷ [])) (same ∙ sym before.of_each) ∙ push_last (box_flags part) v.items in
+        let last : flags_at (box_flags part ++ v.items ∷ []) k ≡ v.items = ap (flags_at (box_flags part ++ v.items ∷ []))
+        (same ∙ sym before.of_each) ∙ push_last (box_flags part) v.items in
         rw (last, is, same, here) (flag_with (test n) flags p)
     | inr less ↦
         let b = before.of_each in

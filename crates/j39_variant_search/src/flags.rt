@@ -2,7 +2,8 @@
 ghost use Rattle.std.specs.Prelude.{◌≡◌, IfOk};
 ghost use Rattle.j39_variants.specs.VariantPlans.{flag_at};
 ghost use Rattle.j39_variant_search.specs.VariantSearch.{box_flags};
-ghost use Rattle.j39_variant_search.specs.inside.BoxParts.{are_common, flags_at, has_some, hole_at, is_empty_box, is_left, is_left_at, is_met, is_common};
+ghost use Rattle.j39_variant_search.specs.inside.BoxParts.{are_common, flags_at, has_some, hole_at, is_empty_box};
+ghost use Rattle.j39_variant_search.specs.inside.BoxParts.{is_left, is_left_at, is_met, is_common};
 
 pub(crate) fn flag_at(flags: &[bool], place: usize) -> bool
     ensures { result ≡ flag_at flags.now place }

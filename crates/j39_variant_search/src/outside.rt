@@ -2,7 +2,8 @@
 ghost use Rattle.std.specs.Prelude.{◌≡◌, ◌<◌, ◌&&◌, ◌||◌, ℕ, IfOk, MatchBool, MatchOption, length, filter};
 ghost use Rattle.j39_variant_search.specs.VariantSearch.{box_flags};
 ghost use Rattle.j39_variant_search.specs.inside.BoxParts.{hole_at, is_met};
-ghost use Rattle.j39_variant_search.specs.inside.NearHoles.{HasNoneOutside, HasOutside, IsNoneBy, choices_inside, empty_choices, is_by_leaving, in_either};
+ghost use Rattle.j39_variant_search.specs.inside.NearHoles.{HasNoneOutside, HasOutside, IsNoneBy, choices_inside};
+ghost use Rattle.j39_variant_search.specs.inside.NearHoles.{empty_choices, is_by_leaving, in_either};
 
 use crate::flags::{flag_at, has_some, hole_at, is_empty_box, is_left_at, is_met};
 use crate::parts::part_behind;
@@ -88,11 +89,12 @@ fn is_by_leaving(by: &[bool], within: &[Vec<bool>], hole: &[Vec<bool>], last: us
         && (flag_at(by, choice) && is_left_at(within, hole, choice)))
 }
 
-// By which choices a part of a box has no variant that is in none of some holes: there is none either in the larger part
-// that has of the other choices all that the whole box has. Nothing where there is one.
+// By which choices a part of a box has no variant that is in none of some holes: there is none either in the larger
+// part that has of the other choices all that the whole box has. Nothing where there is one.
 //
-// Each variant outside leaves a hole that the part meets, first by one of the choices by which the part does, so these are
-// tried in turn. Where one has none by choices in which what was tried is the part itself, the others have none either.
+// Each variant outside leaves a hole that the part meets, first by one of the choices by which the part does, so these
+// are tried in turn. Where one has none by choices in which what was tried is the part itself, the others have none
+// either.
 fn none_by(
     alloc: Global,
     whole: &[Vec<bool>],
@@ -135,7 +137,8 @@ pub(crate) fn has_outside(
     holes: &[Vec<Vec<bool>>],
     near: &[usize],
 ) -> Result<bool, AllocError>
-    ensures { IfOk result (λ found. MatchBool found (HasOutside within.now holes.now near.now) (HasNoneOutside within.now holes.now near.now)) }
+    ensures { IfOk result (λ found. MatchBool found (HasOutside within.now holes.now near.now)
+        (HasNoneOutside within.now holes.now near.now)) }
 {
     match none_by(alloc, within, within, holes, near)? {
         Some(_by) => Ok(false),

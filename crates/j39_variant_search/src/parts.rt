@@ -26,7 +26,8 @@ fn flags_behind(
     first: usize,
     choice: usize,
 ) -> Result<Vec<bool>, AllocError>
-    ensures { IfOk result (λ v. v.items ≡ flags_with (λ place. is_kept first choice (flag_at hole.now place)) flags.now) }
+    ensures { IfOk result (λ v. v.items ≡ flags_with
+        (λ place. is_kept first choice (flag_at hole.now place)) flags.now) }
 {
     flags
         .iter()
@@ -42,7 +43,8 @@ pub(crate) fn part_behind(
     hole: &[Vec<bool>],
     first: usize,
 ) -> Result<Vec<Vec<bool>>, AllocError>
-    ensures { IfOk result (λ v. IsBoxPart (is_behind (box_flags hole.now) first) (box_flags within.now) (box_flags v.items)) }
+    ensures { IfOk result (λ v. IsBoxPart (is_behind (box_flags hole.now) first) (box_flags within.now)
+        (box_flags v.items)) }
 {
     let mut part = Vec::new(alloc);
     for (choice, flags) in within.iter().enumerate() {

@@ -46,16 +46,17 @@ fn all_met(
     within: &[Vec<bool>],
     holes: &[Vec<Vec<bool>>],
 ) -> Result<Vec<usize>, AllocError>
-    ensures { IfOk result (λ v. v.items ≡ filter (λ place. is_met within.now (hole_at holes.now place)) (range_with_len 0 (length holes.now))) }
+    ensures { IfOk result (λ v. v.items ≡ filter (λ place. is_met within.now (hole_at holes.now place))
+        (range_with_len 0 (length holes.now))) }
 {
     (0..holes.len())
         .filter(|place| is_met(within, hole_at(holes, *place)))
         .collect(alloc)
 }
 
-/// The first variant that is in a box and in none of the others, as the places of the alternatives that it takes, choice
-/// by choice. A box reports choice by choice, and place by place, which alternatives it has; one of more or fewer choices
-/// has no variant in common with it.
+/// The first variant that is in a box and in none of the others, as the places of the alternatives that it takes,
+/// choice by choice. A box reports choice by choice, and place by place, which alternatives it has; one of more or
+/// fewer choices has no variant in common with it.
 ///
 /// The time is exponential in the choices at worst. Takes memory for the search.
 pub fn first_outside(

@@ -14,8 +14,10 @@ use Rattle.j39_network.specs.declared.plan.to.To.{To}
 use Rattle.j39_network.specs.declared.plan.to.To.TheVariants.{One}
 use Rattle.j39_network.specs.NeedPlaces.{signal_count}
 use Rattle.j39_variants.specs.declared.line.ProductLine.{ProductLine}
-use Rattle.j39_variants.specs.VariantPlans.{IsCopyOfGroup, flags, group_places, moved_flow, moved_from, moved_need, moved_request, moved_receivers, picked, place_at, unit_places}
-use Rattle.j39_variants.proofs.Places.{SentParts, copied_count, copied_labels, copied_signals, flow_parts, from_place, mapped_all, mapped_count, need_parts, picked_all, picked_count}
+use Rattle.j39_variants.specs.VariantPlans.{IsCopyOfGroup, flags, group_places, moved_flow, moved_from, moved_need, moved_request, moved_receivers, picked}
+use Rattle.j39_variants.specs.VariantPlans.{place_at, unit_places}
+use Rattle.j39_variants.proofs.Places.{SentParts, copied_count, copied_labels, copied_signals, flow_parts, from_place, mapped_all, mapped_count, need_parts}
+use Rattle.j39_variants.proofs.Places.{picked_all, picked_count}
 use Rattle.j39_variants.proofs.Places.{picked_pairs, place_below, place_same, request_parts, to_place}
 
 -- the places are below a number
@@ -156,13 +158,15 @@ module _ (line : ProductLine) (variant : List ℕ) where
 
     pub flows_inside : (fs : List FlowPlan) → AreFlows fs → SentInside (λ f. f.group) (λ f. f.sender) (λ f. f.to) (length us) (length gs) fs
     flows_inside fs is =
-        rw is (sent_inside (unit_places line variant) (group_places line variant) (length us) (length gs) us_below gs_below (λ f. f.group) (λ f. f.sender) (λ f. f.to)
+        rw is (sent_inside (unit_places line variant) (group_places line variant) (length us) (length gs) us_below gs_below (λ f. f.group) (λ f. f.sender)
+        (λ f. f.to)
         (moved_flow (unit_places line variant) (group_places line variant)) (λ f y is. flow_parts f _ _ _ y is) _)
 
     pub requests_inside : (rs : List RequestPlan) → AreRequests rs
         → SentInside (λ r. r.group) (λ r. r.sender) (λ r. r.to) (length us) (length gs) rs
     requests_inside rs is =
-        rw is (sent_inside (unit_places line variant) (group_places line variant) (length us) (length gs) us_below gs_below (λ r. r.group) (λ r. r.sender) (λ r. r.to)
+        rw is (sent_inside (unit_places line variant) (group_places line variant) (length us) (length gs) us_below gs_below (λ r. r.group) (λ r. r.sender)
+        (λ r. r.to)
         (moved_request (unit_places line variant) (group_places line variant)) (λ r y is. request_parts r _ _ _ y is) _)
 
     pub units_of_needs : (ds : List NeedPlan) → AreNeeds ds → All (λ d. d.unit < length us) ds

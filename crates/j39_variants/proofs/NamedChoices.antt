@@ -41,7 +41,8 @@ labels_at (Some c) label = refl
 
 place_view : (cs : List Choice) (label : List ℕ) (i : ℕ)
     → place_in (map choice_labels cs) label i ≡ option_map (λ p. (i, p)) (option_and_then (λ c. place_of (choice_labels c) label) (slice_get cs i))
-place_view cs label i = ap (option_map (λ p. (i, p))) (ap (option_and_then (λ labels. place_of labels label)) (slice_get-map choice_labels cs i) ∙ labels_at (slice_get cs i) label)
+place_view cs label i = ap (option_map (λ p. (i, p))) (ap (option_and_then (λ labels. place_of labels label)) (slice_get-map choice_labels cs i) ∙ labels_at
+    (slice_get cs i) label)
 
 at_place : (cs : List Choice) (label : List ℕ) (found : Option ℕ)
     → option_and_then (place_in (map choice_labels cs) label) found
@@ -67,10 +68,12 @@ size_at (Some c) = rw length-map
 
 pub size_of_view : (cs : List Choice) (i : ℕ)
     → size_of (map choice_labels cs) i ≡ option_map_or (λ (c : Choice). length c.alternatives.items) (slice_get cs i) 0
-size_of_view cs i = ap (λ found. option_map_or (λ (labels : List (List ℕ)). length labels) found 0) (slice_get-map choice_labels cs i) ∙ size_at (slice_get cs i)
+size_of_view cs i = ap (λ found. option_map_or (λ (labels : List (List ℕ)). length labels) found 0) (slice_get-map choice_labels cs i) ∙ size_at
+    (slice_get cs i)
 
 -- the alternatives of what a list names
-pub names : (choices : List (List (List ℕ))) (ds : Items) (list : List NamedAlternative) → Each (IsNamedBy choices) ds list → Each (NamesAlternative choices) ds (map (λ n. n.at) list)
+pub names : (choices : List (List (List ℕ))) (ds : Items) (list : List NamedAlternative) → Each (IsNamedBy choices) ds list
+    → Each (NamesAlternative choices) ds (map (λ n. n.at) list)
 unfolding Each
 names choices no_items [] each = tt
 names choices no_items (n ∷ list) each = absurd each

@@ -1,5 +1,6 @@
 -- Of a line without choices, with which nothing goes with alternatives, the plan of the one variant is the plan of the file.
-use Rattle.std.proofs.Common.{◌≡◌, ◌≢◌, ℕ, zero, suc, ◌+◌, ◌<◌, List, [], ◌∷◌, Bool, true, Option, Some, None, All, length, map, refl, sym, ap, ◌∙◌, arith, add-zero, add-one}
+use Rattle.std.proofs.Common.{◌≡◌, ◌≢◌, ℕ, zero, suc, ◌+◌, ◌<◌, List, [], ◌∷◌, Bool, true, Option, Some, None, All, length, map, refl, sym, ap, ◌∙◌, arith}
+use Rattle.std.proofs.Common.{add-zero, add-one}
 use Rattle.std.specs.declared.alloc.Global.{Global}
 use Rattle.std.specs.Prelude.{Vec}
 use Rattle.std.specs.List.{AllZip, cons_option, filter_map}
@@ -21,7 +22,8 @@ use Rattle.j39_variants.specs.DescribedLines.{AreLists, DescribesProductLine, la
 use Rattle.j39_variants.specs.LineLaws.{IsOnePlan, IsOfOneVariant}
 use Rattle.j39_variants.specs.ListTables.{IsWith, NamesAlternative, named_in, label_text_in}
 use Rattle.j39_variants.specs.Variants.{IsVariant, is_in}
-use Rattle.j39_variants.specs.VariantPlans.{IsCopyOfGroup, IsCopyOfMeaning, IsVariantPlan, flags, group_places, moved_flow, moved_from, moved_need, moved_receivers, moved_request, picked, place_at, places, unit_places}
+use Rattle.j39_variants.specs.VariantPlans.{IsCopyOfGroup, IsCopyOfMeaning, IsVariantPlan, flags, group_places, moved_flow, moved_from, moved_need}
+use Rattle.j39_variants.specs.VariantPlans.{moved_receivers, moved_request, picked, place_at, places, unit_places}
 
 -- no list names an alternative
 abbrev pub AreEmpty : List (Vec Alternative Global) → Type 0
@@ -35,7 +37,8 @@ picked_whole v [] (x ∷ xs) none same = absurd (omega (arith, same))
 picked_whole v (list ∷ lists) [] none same = absurd (omega (arith, same))
 picked_whole v (list ∷ lists) (x ∷ xs) none same = rw (none.0, picked_whole v lists xs none.1 (omega (arith, same)))
 
-place_stays : (v : List ℕ) (lists : List (Vec Alternative Global)) (n i : ℕ) → AreEmpty lists → i < length lists → place_at (places n (flags v lists)) i ≡ Some (n + i)
+place_stays : (v : List ℕ) (lists : List (Vec Alternative Global)) (n i : ℕ) → AreEmpty lists → i < length lists → place_at (places n (flags v lists)) i ≡ Some
+    (n + i)
 place_stays v [] n i none below = absurd (omega arith)
 place_stays v (list ∷ lists) n zero none below = rw none.0 (ap Some (sym (add-zero n)))
 place_stays v (list ∷ lists) n (suc i) none below =
@@ -96,7 +99,8 @@ module _ (us gs : List (Option ℕ)) (n m : ℕ) (units : Stays us n) (groups : 
   flows_stay (f ∷ fs) group sender receivers =
       rw (
         flow_stays f (group 0 f (omega arith)) (sender 0 f (omega arith)) (receivers 0 f (omega arith)),
-        flows_stay fs (λ k d below. group (suc k) d (omega arith)) (λ k d below. sender (suc k) d (omega arith)) (λ k d below. receivers (suc k) d (omega arith)),
+        flows_stay fs (λ k d below. group (suc k) d (omega arith)) (λ k d below. sender (suc k) d (omega arith))
+            (λ k d below. receivers (suc k) d (omega arith)),
       )
 
   requests_stay : (rs : List RequestPlan) → All (λ r. r.group < m) rs → All (λ r. r.sender < n) rs → All (λ r. (u : ℕ) → r.to ≡ to.One u → u < n) rs
@@ -105,7 +109,8 @@ module _ (us gs : List (Option ℕ)) (n m : ℕ) (units : Stays us n) (groups : 
   requests_stay (r ∷ rs) group sender receivers =
       rw (
         request_stays r (group 0 r (omega arith)) (sender 0 r (omega arith)) (receivers 0 r (omega arith)),
-        requests_stay rs (λ k d below. group (suc k) d (omega arith)) (λ k d below. sender (suc k) d (omega arith)) (λ k d below. receivers (suc k) d (omega arith)),
+        requests_stay rs (λ k d below. group (suc k) d (omega arith)) (λ k d below. sender (suc k) d (omega arith))
+            (λ k d below. receivers (suc k) d (omega arith)),
       )
 
   needs_stay : (ds : List NeedPlan) → All (λ d. d.unit < n) ds → All (λ d. d.group < m) ds → All (λ d. (u : ℕ) → d.from ≡ Some u → u < n) ds

@@ -1,5 +1,6 @@
 -- Places of what is there among what is there.
-use Rattle.std.proofs.Common.{◌≡◌, ◌≢◌, ℕ, zero, suc, ◌+◌, ◌<◌, ◌≤◌, List, [], ◌∷◌, ◌++◌, Bool, true, false, Option, Some, None, map, length, get_or, drop, All, AllPairs, refl, sym, ap, ◌∙◌, arith, subst, add-one}
+use Rattle.std.proofs.Common.{◌≡◌, ◌≢◌, ℕ, zero, suc, ◌+◌, ◌<◌, ◌≤◌, List, [], ◌∷◌, ◌++◌, Bool, true, false, Option, Some, None, map, length, get_or, drop, All}
+use Rattle.std.proofs.Common.{AllPairs, refl, sym, ap, ◌∙◌, arith, subst, add-one}
 use denote.Struct.Props.{props}
 use Rattle.std.specs.Option.{ForSome}
 use Rattle.std.specs.List.{AllZip, cons_option, filter_map, slice_get}
@@ -15,7 +16,8 @@ use Rattle.j39_network.specs.declared.plan.request_plan.RequestPlan.{RequestPlan
 use Rattle.j39_network.specs.declared.plan.to.To.{To}
 use Rattle.j39_network.specs.declared.plan.to.To.TheVariants as to
 use Rattle.j39_network.specs.declared.plan.to.To.TheVariants.{One}
-use Rattle.j39_variants.specs.VariantPlans.{IsCopyOfGroup, flow_between, moved_from, moved_receivers, need_between, picked, place_at, places, request_between, made_of, where_all_are}
+use Rattle.j39_variants.specs.VariantPlans.{IsCopyOfGroup, flow_between, moved_from, moved_receivers, need_between, picked, place_at, places, request_between}
+use Rattle.j39_variants.specs.VariantPlans.{made_of, where_all_are}
 
 -- where a place is: what stands there is what stood at the old one
 pub record Located {X : Type 0} (bs : List Bool) (xs : List X) (n i p : ℕ) : Type 0 where

@@ -1,5 +1,6 @@
 -- The search for a possible variant: what begins with places that no variant may have is none.
-use Rattle.std.proofs.Common.{◌≡◌, ℕ, zero, suc, ◌+◌, ◌<◌, ◌≤◌, ◌⊎◌, ◌==◌, List, [], ◌∷◌, ◌++◌, Bool, true, false, ◌&&◌, ◌||◌, not, Option, Some, None, length, get_or, refl, sym, ap, ◌∙◌, arith, subst, append_assoc}
+use Rattle.std.proofs.Common.{◌≡◌, ℕ, zero, suc, ◌+◌, ◌<◌, ◌≤◌, ◌⊎◌, ◌==◌, List, [], ◌∷◌, ◌++◌, Bool, true, false, ◌&&◌, ◌||◌, not, Option, Some, None, length}
+use Rattle.std.proofs.Common.{get_or, refl, sym, ap, ◌∙◌, arith, subst, append_assoc}
 use Rattle.std.specs.declared.alloc.Global.{Global}
 use Rattle.std.specs.Prelude.{Vec, slice_index}
 use Rattle.std.specs.List.{list_all, list_any, slice_get}
@@ -12,7 +13,8 @@ use Rattle.j39_variants.specs.declared.line.Alternative.{Alternative}
 use Rattle.j39_variants.specs.declared.line.Choice.{Choice}
 use Rattle.j39_variants.specs.declared.line.ProductLine.{ProductLine}
 use Rattle.j39_variants.specs.LineLaws.{HasOneFirst}
-use Rattle.j39_variants.specs.Variants.{FitChoices, IsEarlier, IsFirstBehind, IsFirstTaking, IsTaking, IsVariant, NoneTakes, is_allowed, is_in, is_possible, size_at, takes_alternative, takes_all}
+use Rattle.j39_variants.specs.Variants.{FitChoices, IsEarlier, IsFirstBehind, IsFirstTaking, IsTaking, IsVariant, NoneTakes, is_allowed, is_in, is_possible}
+use Rattle.j39_variants.specs.Variants.{size_at, takes_alternative, takes_all}
 
 -- ---- what is taken stays taken behind more places
 
@@ -41,11 +43,13 @@ any_from : (pa qa pl ql : Bool) → (pa ≡ true → qa ≡ true) → (pl ≡ tr
 any_from true qa pl ql here rest is = rw (here refl) refl
 any_from false qa pl ql here rest is = either_true qa ql (rest is)
 
-any_more : (p q : Alternative → Bool) (list : List Alternative) → ((a : Alternative) → p a ≡ true → q a ≡ true) → list_any p list ≡ true → list_any q list ≡ true
+any_more : (p q : Alternative → Bool) (list : List Alternative) → ((a : Alternative) → p a ≡ true → q a ≡ true) → list_any p list ≡ true
+    → list_any q list ≡ true
 any_more p q [] leads is = is
 any_more p q (a ∷ list) leads is = any_from (p a) (q a) (list_any p list) (list_any q list) (leads a) (any_more p q list leads) is
 
-all_more : (p q : Alternative → Bool) (list : List Alternative) → ((a : Alternative) → p a ≡ true → q a ≡ true) → list_all p list ≡ true → list_all q list ≡ true
+all_more : (p q : Alternative → Bool) (list : List Alternative) → ((a : Alternative) → p a ≡ true → q a ≡ true) → list_all p list ≡ true
+    → list_all q list ≡ true
 all_more p q [] leads is = is
 all_more p q (a ∷ list) leads is =
     let parts = and_parts (p a) (list_all p list) is in
@@ -53,7 +57,8 @@ all_more p q (a ∷ list) leads is =
 
 in_more : (taken rest : List ℕ) (list : List Alternative) → is_in taken list ≡ true → is_in (taken ++ rest) list ≡ true
 in_more taken rest list is =
-    all_more (λ a. list_any (λ b. (b.choice == a.choice) && takes_alternative taken b) list) (λ a. list_any (λ b. (b.choice == a.choice) && takes_alternative (taken ++ rest) b) list) list
+    all_more (λ a. list_any (λ b. (b.choice == a.choice) && takes_alternative taken b) list)
+    (λ a. list_any (λ b. (b.choice == a.choice) && takes_alternative (taken ++ rest) b) list) list
     (λ a. any_more (λ b. (b.choice == a.choice) && takes_alternative taken b) (λ b. (b.choice == a.choice) && takes_alternative (taken ++ rest) b) list
     (λ b. both_true (b.choice == a.choice) (takes_alternative taken b) (takes_alternative (taken ++ rest) b) (takes_more taken rest b)))
     is
@@ -71,7 +76,8 @@ possible_less (never ∷ nevers) taken rest is =
     (possible_less nevers taken rest parts.1)
 
 -- places in a box that isn't built
-pub none_possible : (line : ProductLine) (wanted : List Alternative) (taken : List ℕ) → is_possible line.nevers.items taken ≡ false → NoneTakes line wanted taken
+pub none_possible : (line : ProductLine) (wanted : List Alternative) (taken : List ℕ) → is_possible line.nevers.items taken ≡ false
+    → NoneTakes line wanted taken
 none_possible line wanted taken never rest is =
     false≢true (sym never ∙ possible_less line.nevers.items taken rest is.possible)
 
@@ -128,7 +134,8 @@ index_behind : (taken rest : List ℕ) (place : ℕ) → slice_index (taken ++ p
 index_behind [] rest place = refl
 index_behind (x ∷ taken) rest place = index_behind taken rest place
 
-allowed_one : (v : List ℕ) (c place : ℕ) (a : Alternative) → slice_get v c ≡ Some place → takes_alternative v a ≡ true → (not (a.choice == c) || (place == a.place)) ≡ true
+allowed_one : (v : List ℕ) (c place : ℕ) (a : Alternative) → slice_get v c ≡ Some place → takes_alternative v a ≡ true
+    → (not (a.choice == c) || (place == a.place)) ≡ true
 allowed_one v c place a at is = go (a.choice == c) refl where
   go : (b : Bool) → (a.choice == c) ≡ b → (not (a.choice == c) || (place == a.place)) ≡ true
   go false other = rw other refl
@@ -160,11 +167,13 @@ none_behind line wanted taken few none [] is =
 none_behind line wanted taken few none (place ∷ rest) is =
     let e = length-append taken (place ∷ rest) in
     let within : length taken < length (taken ++ place ∷ rest) = omega (arith, e) in
-    let below : place < size_at line.choices.items (length taken) = subst (λ p. p < size_at line.choices.items (length taken)) (index_behind taken rest place) (is.is_variant.fits (length taken) within) in
+    let below : place < size_at line.choices.items (length taken) = subst (λ p. p < size_at line.choices.items (length taken)) (index_behind taken rest place)
+    (is.is_variant.fits (length taken) within) in
     let P : List ℕ → Type 0 = λ v. IsTaking line wanted v in
     none place below rest (subst P (sym (append_assoc taken (place ∷ []) rest)) is)
 
-pub found_taking : (line : ProductLine) (wanted : List Alternative) (taken : List ℕ) → FitChoices line.choices.items taken → length taken ≡ length line.choices.items
+pub found_taking : (line : ProductLine) (wanted : List Alternative) (taken : List ℕ) → FitChoices line.choices.items taken
+    → length taken ≡ length line.choices.items
     → is_possible line.nevers.items taken ≡ true → takes_all taken wanted ≡ true → IsTaking line wanted taken
 found_taking line wanted taken fits all possible these = record { is_variant = record { fits = fits; of_each = all }; possible = possible; takes_these = these }
 
@@ -238,7 +247,8 @@ first_longer line wanted taken longer variant place long few none found =
     }
 
 -- of those that begin with no place
-pub first_of_all : (line : ProductLine) (wanted : List Alternative) (variant : List ℕ) → IsFirstBehind line wanted [] variant → IsFirstTaking line wanted variant
+pub first_of_all : (line : ProductLine) (wanted : List Alternative) (variant : List ℕ) → IsFirstBehind line wanted [] variant
+    → IsFirstTaking line wanted variant
 first_of_all line wanted variant found = record { is_taking = found.is_taking; first = λ other is earlier. found.first other is earlier }
 
 -- ---- one is the first

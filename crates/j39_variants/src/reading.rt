@@ -6,7 +6,8 @@ ghost use Rattle.j39_toml.specs.Outcome.{GivesGrowing};
 ghost use Rattle.j39_toml.specs.declared.file_error.FileError.TheVariants as errors;
 ghost use Rattle.j39_toml.specs.InOrder.{Each};
 ghost use Rattle.j39_variants.specs.ChoiceTables.{choice_labels};
-ghost use Rattle.j39_variants.specs.DescribedLines.{AreChoices, DescribesProductLine, LineGrows, ReadsProductLine, choices_faults, labels_of_choices};
+ghost use Rattle.j39_variants.specs.DescribedLines.{AreChoices, DescribesProductLine, LineGrows, ReadsProductLine};
+ghost use Rattle.j39_variants.specs.DescribedLines.{choices_faults, labels_of_choices};
 ghost use Rattle.j39_variants.specs.DescribedLines.{product_line_faults, never_tables, nevers_faults};
 ghost use Rattle.j39_variants.specs.NeverTables.{IsNeverOf};
 
@@ -30,7 +31,8 @@ use withs::lists;
 
 #[tactic(auto, using(j39_toml::proofs::FirstFaults::faults_after), unfolding(crate::specs::DescribedLines::choices_faults))]
 fn choices_of(alloc: Global, members: &toml::Table) -> Result<Vec<Choice>, PlanError>
-    ensures gives { GivesGrowing (Unit {0}) result (choices_faults (table_view members.now)) (λ v. AreChoices (table_view members.now) v.items) }
+    ensures gives { GivesGrowing (Unit {0}) result (choices_faults (table_view members.now))
+        (λ v. AreChoices (table_view members.now) v.items) }
     ensures labels { IfOk result (λ v. map choice_labels v.items ≡ labels_of_choices (table_view members.now)) }
 {
     let values = elements(members, Table::Top, Key::Choice, CHOICE_LIMIT, false)?;
@@ -52,7 +54,8 @@ fn nevers_of(
 
 #[tactic(auto, using(j39_toml::proofs::FirstFaults::faults_after))]
 fn read_members(alloc: Global, members: &toml::Table) -> Result<ProductLine, PlanError>
-    ensures { GivesGrowing (LineGrows (table_view members.now)) result (product_line_faults (table_view members.now)) (DescribesProductLine (table_view members.now)) }
+    ensures { GivesGrowing (LineGrows (table_view members.now)) result (product_line_faults (table_view members.now))
+        (DescribesProductLine (table_view members.now)) }
 {
     let plan = read_top(alloc, members)?;
     let top = top(members)?;
@@ -67,9 +70,9 @@ fn read_members(alloc: Global, members: &toml::Table) -> Result<ProductLine, Pla
     })
 }
 
-/// The plan of a line of vehicles that a file describes: what `read_plan` reports of it, and behind that its choices, at
-/// most 32 of 64 alternatives in all, at most 256 boxes of variants that aren't built, and with which alternatives each
-/// unit, group, flow, need and request goes. Only version 4 knows of these.
+/// The plan of a line of vehicles that a file describes: what `read_plan` reports of it, and behind that its choices,
+/// at most 32 of 64 alternatives in all, at most 256 boxes of variants that aren't built, and with which alternatives
+/// each unit, group, flow, need and request goes. Only version 4 knows of these.
 ///
 /// Refuses what `read_plan` refuses, and else the first fault of these, in the order in which they stand here. Takes no
 /// memory of bytes that are no UTF-8, or white space and comments alone.

@@ -1,7 +1,9 @@
 //! The first possible variant that takes some alternatives.
-ghost use Rattle.std.specs.Prelude.{◌≡◌, ◌<◌, ◌≤◌, ◌++◌, ◌∷◌, [], ◌||◌, ◌==◌, ℕ, not, IfOk, MatchOption, length, slice_index};
+ghost use Rattle.std.specs.Prelude.{◌≡◌, ◌<◌, ◌≤◌, ◌++◌, ◌∷◌, [], ◌||◌, ◌==◌, ℕ, not, IfOk, MatchOption, length};
+ghost use Rattle.std.specs.Prelude.{slice_index};
 ghost use Rattle.std.specs.List.{list_all};
-ghost use Rattle.j39_variants.specs.Variants.{FitChoices, IsFirstBehind, IsFirstTaking, NoneTakes, is_allowed, size_at, takes_all};
+ghost use Rattle.j39_variants.specs.Variants.{FitChoices, IsFirstBehind, IsFirstTaking, NoneTakes, is_allowed, size_at};
+ghost use Rattle.j39_variants.specs.Variants.{takes_all};
 
 use crate::variant::{is_possible, takes_alternative};
 use crate::{Alternative, ProductLine};
@@ -80,7 +82,8 @@ pub fn first_possible(
     line: &ProductLine,
     wanted: &[Alternative],
 ) -> Result<Option<Vec<usize>>, AllocError>
-    ensures { IfOk result (λ found. MatchOption found (NoneTakes line.now wanted.now []) (λ v. IsFirstTaking line.now wanted.now v.items)) }
+    ensures { IfOk result (λ found. MatchOption found (NoneTakes line.now wanted.now [])
+        (λ v. IsFirstTaking line.now wanted.now v.items)) }
 {
     behind(alloc, line, wanted, &[])
 }

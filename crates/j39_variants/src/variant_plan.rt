@@ -2,7 +2,8 @@
 ghost use Rattle.std.specs.Prelude.{◌≡◌, IfOk};
 ghost use Rattle.std.specs.List.{filter_map};
 ghost use Rattle.j39_variants.specs.VariantPlans.{IsVariantPlan, flag_at, flags, picked, place_at, places};
-ghost use Rattle.j39_variants.specs.VariantPlans.{moved_flow, moved_from, moved_need, moved_request, moved_receivers, where_all_are};
+ghost use Rattle.j39_variants.specs.VariantPlans.{moved_flow, moved_from, moved_need, moved_request, moved_receivers};
+ghost use Rattle.j39_variants.specs.VariantPlans.{where_all_are};
 
 mod copies;
 
@@ -180,7 +181,8 @@ fn moved<T: Copy + Move>(
     units: &[Option<usize>],
     groups: &[Option<usize>],
 ) -> Result<Vec<T>, AllocError>
-    ensures { IfOk result (λ v. v.items ≡ filter_map (T.by_places units.now groups.now) (picked (flags variant.now lists.now) values.now)) }
+    ensures { IfOk result (λ v. v.items ≡ filter_map (T.by_places units.now groups.now)
+        (picked (flags variant.now lists.now) values.now)) }
 {
     let are_there = flags(alloc, variant, lists)?;
     let there = picked(alloc, &are_there, values)?;

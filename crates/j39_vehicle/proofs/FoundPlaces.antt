@@ -122,7 +122,8 @@ All-from_AllZip R P holds (x ∷ xs) (y ∷ ys) each = All-cons P y ys (holds x 
 pub gateway_units : (buses : List BusPlan) (gs : List GatewayTable) (hs : List Gateway) → AllZip (StandsForGateway buses) gs hs
     → All (λ h. All (HasUnit buses) h.units.items) hs
 gateway_units buses = All-from_AllZip (StandsForGateway buses) (λ h. All (HasUnit buses) h.units.items)
-    (λ g h stands. All-from_AllZip (StandsForName buses) (HasUnit buses) (λ n u found. unit_found buses (string_bytes n.text) u found) g.units.items h.units.items stands.units)
+    (λ g h stands. All-from_AllZip (StandsForName buses) (HasUnit buses)
+    (λ n u found. unit_found buses (string_bytes n.text) u found) g.units.items h.units.items stands.units)
 
 pub need_places : (buses : List BusPlan) (ds : List NeedTable) (rs : List VehicleNeed) → AllZip (StandsForNeed buses) ds rs → All (HasNeed buses) rs
 need_places buses = All-from_AllZip (StandsForNeed buses) (HasNeed buses) (λ d r stands. record {
@@ -158,5 +159,6 @@ forward_places buses gs hs fs rs same = All-from_AllZip (StandsForForward buses 
   read = listed_there buses r.input r.output (λ s. s.read < signals_at buses r.input)
       (λ t s stands. signal_there buses r.input (string_bytes t.read) s.read stands.read) (option_map (λ v. v.items) f.signals) r.signals stands.signals;
   written = listed_there buses r.input r.output (λ s. s.written < signals_at buses r.output)
-      (λ t s stands. signal_there buses r.output (string_bytes t.written) s.written stands.written) (option_map (λ v. v.items) f.signals) r.signals stands.signals;
+      (λ t s stands. signal_there buses r.output (string_bytes t.written) s.written stands.written)
+      (option_map (λ v. v.items) f.signals) r.signals stands.signals;
 }) fs rs

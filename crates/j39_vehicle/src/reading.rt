@@ -85,7 +85,8 @@ fn top_arrays(members: &toml::Table) -> Result<Arrays<'_>, VehicleError>
 
 #[tactic(auto, using(j39_toml::proofs::FirstFaults::faults_after))]
 fn read_top(alloc: Global, members: &toml::Table) -> Result<VehicleFile, VehicleError>
-    ensures { GivesGrowing (FileGrows (table_view members.now)) result (faults (table_view members.now)) (DescribesFile (table_view members.now)) }
+    ensures { GivesGrowing (FileGrows (table_view members.now)) result (faults (table_view members.now))
+        (DescribesFile (table_view members.now)) }
 {
     let arrays = top_arrays(members)?;
     let buses = read_each(alloc, &BusReader, arrays.buses)?;

@@ -32,7 +32,8 @@ pub fn resolve(
     buses: Vec<BusPlan>,
 ) -> Result<Vehicle, VehicleError>
     requires { length buses.items ≤ bus_limit }
-    ensures { GivesGrowing (VehicleGrows buses.items file.now) result (found_faults buses.items file.now) (StandsForFile buses.items file.now) }
+    ensures { GivesGrowing (VehicleGrows buses.items file.now) result (found_faults buses.items file.now)
+        (StandsForFile buses.items file.now) }
 {
     let plans = buses.as_slice();
     let tables = file.gateways.as_slice();

@@ -35,19 +35,25 @@ use Rattle.j39_vehicle.specs.declared.vehicle.gateway.Gateway.{Gateway}
 use Rattle.j39_vehicle.specs.declared.vehicle.places.UnitAt.{UnitAt}
 use Rattle.j39_vehicle.specs.declared.vehicle.vehicle_need.VehicleNeed.{VehicleNeed}
 use Rattle.j39_vehicle_findings.specs.Buses.{group_at, requests_on, spn_at}
-use Rattle.j39_vehicle_findings.specs.ForwardEnds.{Copies, IsAmong, IsDirect, IsFollowedBy, IsInput, IsOutput, WriteOneSignal, Writes, need_of_hearer, input_flows, listed}
+use Rattle.j39_vehicle_findings.specs.ForwardEnds.{Copies, IsAmong, IsDirect, IsFollowedBy, IsInput, IsOutput, WriteOneSignal, Writes, need_of_hearer}
+use Rattle.j39_vehicle_findings.specs.ForwardEnds.{input_flows, listed}
 use Rattle.j39_vehicle_findings.specs.ForwardEnds.{output_flows, units_of_gateway}
-use Rattle.j39_vehicle_findings.specs.ForwardTests.{copies, goes_to_receiver, is_unit_among, is_direct, is_direct_mode, is_followed, is_input, is_output, write_one_signal}
+use Rattle.j39_vehicle_findings.specs.ForwardTests.{copies, goes_to_receiver, is_unit_among, is_direct, is_direct_mode, is_followed, is_input, is_output}
+use Rattle.j39_vehicle_findings.specs.ForwardTests.{write_one_signal}
 use Rattle.j39_vehicle_findings.specs.ForwardTests.{writes}
 use Rattle.j39_vehicle_findings.specs.Matching.{Agree, AreAlike, AreSameNumbers, AreSameUnits, CanStandFor, IsAlwaysValue, has_values_of}
-use Rattle.j39_vehicle_findings.specs.MatchTests.{agree, are_alike, are_same_numbers, are_same_units, has, is_always_value, is_trouble_code, kind_number, same_flag}
+use Rattle.j39_vehicle_findings.specs.MatchTests.{agree, are_alike, are_same_numbers, are_same_units, has, is_always_value, is_trouble_code, kind_number}
+use Rattle.j39_vehicle_findings.specs.MatchTests.{same_flag}
 use Rattle.j39_vehicle_findings.specs.MatchTests.{signal_width_fits}
 use Rattle.j39_vehicle_findings.specs.Traces.{IsNeedFlow, first_agreeing, flows_of_need, is_from_origin, need_on_bus}
-use Rattle.j39_vehicle_findings.specs.VehicleFindings.{AreTwoForwards, AreUnlike, CopiesOtherLayout, DiffersFrom, GroupsMeet, HasAnyQueue, HasManyInputs, HasManyOutputs}
+use Rattle.j39_vehicle_findings.specs.VehicleFindings.{AreTwoForwards, AreUnlike, CopiesOtherLayout, DiffersFrom, GroupsMeet, HasAnyQueue, HasManyInputs}
+use Rattle.j39_vehicle_findings.specs.VehicleFindings.{HasManyOutputs}
 use Rattle.j39_vehicle_findings.specs.VehicleFindings.{HasNoInput, HasNoOutput, HaveOtherLayouts, IsCopiedOtherwise, IsNeedUnmet, IsOtherSignal, IsSelector}
 use Rattle.j39_vehicle_findings.specs.VehicleFindings.{IsWrittenOtherwise, MayShareQueue}
-use Rattle.j39_vehicle_findings.specs.FoundPaths.{are_two_forwards, are_unlike, copies_other_layout, differs_from, has_any_queue, has_many_inputs, has_many_outputs}
-use Rattle.j39_vehicle_findings.specs.FoundPaths.{has_no_input, has_no_output, have_other_layouts, is_any_queue, is_copied_otherwise, is_in_selector, is_need_flow}
+use Rattle.j39_vehicle_findings.specs.FoundPaths.{are_two_forwards, are_unlike, copies_other_layout, differs_from, has_any_queue, has_many_inputs}
+use Rattle.j39_vehicle_findings.specs.FoundPaths.{has_many_outputs}
+use Rattle.j39_vehicle_findings.specs.FoundPaths.{has_no_input, has_no_output, have_other_layouts, is_any_queue, is_copied_otherwise, is_in_selector}
+use Rattle.j39_vehicle_findings.specs.FoundPaths.{is_need_flow}
 use Rattle.j39_vehicle_findings.specs.FoundPaths.{is_need_unmet, is_other_signal, is_selector, is_written_otherwise, may_share_queue, same_byte, some_at}
 
 pub it_is : (b : Bool) → Decides b (b ≡ true)

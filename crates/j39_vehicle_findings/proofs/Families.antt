@@ -11,15 +11,18 @@ use Rattle.j39_vehicle.specs.declared.vehicle.Vehicle.{Vehicle}
 use Rattle.j39_vehicle.specs.declared.vehicle.forward.Forward.{Forward}
 use Rattle.j39_vehicle.specs.declared.vehicle.gateway.Gateway.{Gateway}
 use Rattle.j39_vehicle_findings.specs.Buses.{group_at}
-use Rattle.j39_vehicle_findings.specs.VehicleFindings.{AreTwoForwards, CopiesOtherLayout, HasManyInputs, HasManyOutputs, HasNoInput, HasNoOutput, Holds, IsBefore}
+use Rattle.j39_vehicle_findings.specs.VehicleFindings.{AreTwoForwards, CopiesOtherLayout, HasManyInputs, HasManyOutputs, HasNoInput, HasNoOutput, Holds}
+use Rattle.j39_vehicle_findings.specs.VehicleFindings.{IsBefore}
 use Rattle.j39_vehicle_findings.specs.VehicleFindings.{IsNeedUnmet, IsOtherSignal, MayShareQueue, SignalIsOther, finding_number, places_of}
 use Rattle.j39_vehicle_findings.specs.FoundPaths.{content_findings, differences, end_findings, is_other_signal, may_share_queue, need_findings, queue_findings}
 use Rattle.j39_vehicle_findings.specs.FoundPaths.{shared_queues, signals_that_differ}
 use Rattle.j39_vehicle_findings.specs.declared.finding.VehicleFinding.{VehicleFinding}
-use Rattle.j39_vehicle_findings.specs.declared.finding.VehicleFinding.TheVariants.{NoInput, ManyInputs, NoOutput, ManyOutputs, LayoutDiffers, SignalDiffers, TwoForwards}
+use Rattle.j39_vehicle_findings.specs.declared.finding.VehicleFinding.TheVariants.{NoInput, ManyInputs, NoOutput, ManyOutputs, LayoutDiffers, SignalDiffers}
+use Rattle.j39_vehicle_findings.specs.declared.finding.VehicleFinding.TheVariants.{TwoForwards}
 use Rattle.j39_vehicle_findings.specs.declared.finding.VehicleFinding.TheVariants.{NeedUnmet, SharedQueue}
 use Rattle.j39_vehicle_findings.proofs.Deciding.{Decides-are_two_forwards, Decides-copies_other_layout, Decides-has_many_inputs, Decides-has_many_outputs}
-use Rattle.j39_vehicle_findings.proofs.Deciding.{Decides-has_no_input, Decides-has_no_output, Decides-is_need_unmet, Decides-is_other_signal, Decides-may_share_queue}
+use Rattle.j39_vehicle_findings.proofs.Deciding.{Decides-has_no_input, Decides-has_no_output, Decides-is_need_unmet, Decides-is_other_signal}
+use Rattle.j39_vehicle_findings.proofs.Deciding.{Decides-may_share_queue}
 
 -- the order of findings
 abbrev pub in_order : Order VehicleFinding
@@ -38,10 +41,12 @@ ends_covered v =
     Covers-append in_order (Holds v) 1 1 2 4 _ _ (omega arith) (omega arith) (omega arith)
     (each_family in_order (Holds v) 1 (HasNoInput v) (Decides-has_no_input v) NoInput forwards (λ i h. h) (λ i. record { number = refl; places = refl }))
     (Covers-append in_order (Holds v) 2 2 3 4 _ _ (omega arith) (omega arith) (omega arith)
-    (each_family in_order (Holds v) 2 (HasManyInputs v) (Decides-has_many_inputs v) ManyInputs forwards (λ i h. h) (λ i. record { number = refl; places = refl }))
+    (each_family in_order (Holds v) 2 (HasManyInputs v) (Decides-has_many_inputs v) ManyInputs forwards (λ i h. h)
+    (λ i. record { number = refl; places = refl }))
     (Covers-append in_order (Holds v) 3 3 4 4 _ _ (omega arith) (omega arith) (omega arith)
     (each_family in_order (Holds v) 3 (HasNoOutput v) (Decides-has_no_output v) NoOutput forwards (λ i h. h) (λ i. record { number = refl; places = refl }))
-    (each_family in_order (Holds v) 4 (HasManyOutputs v) (Decides-has_many_outputs v) ManyOutputs forwards (λ i h. h) (λ i. record { number = refl; places = refl }))))
+    (each_family in_order (Holds v) 4 (HasManyOutputs v) (Decides-has_many_outputs v) ManyOutputs forwards (λ i h. h)
+    (λ i. record { number = refl; places = refl }))))
 
 -- ---- what goes into what
 

@@ -13,13 +13,17 @@ use Rattle.j39_vehicle.specs.declared.vehicle.Vehicle.{Vehicle}
 use Rattle.j39_vehicle.specs.declared.vehicle.forward.Forward.{Forward}
 use Rattle.j39_vehicle_findings.specs.ForwardEnds.{ComesAfter, at_once, later}
 use Rattle.j39_vehicle_findings.specs.Loops.{DecidesLoops}
-use Rattle.j39_vehicle_findings.specs.VehicleFindings.{AreFindings, AreTwoForwards, CopiesOtherLayout, HasManyInputs, HasManyOutputs, HasNoInput, HasNoOutput, Holds}
+use Rattle.j39_vehicle_findings.specs.VehicleFindings.{AreFindings, AreTwoForwards, CopiesOtherLayout, HasManyInputs, HasManyOutputs, HasNoInput, HasNoOutput}
+use Rattle.j39_vehicle_findings.specs.VehicleFindings.{Holds}
 use Rattle.j39_vehicle_findings.specs.VehicleFindings.{IsBefore, IsNeedUnmet, finding_number}
-use Rattle.j39_vehicle_findings.specs.FoundPaths.{are_two_forwards, content_findings, copies_other_layout, differences, end_findings, has_many_inputs, has_many_outputs}
-use Rattle.j39_vehicle_findings.specs.FoundPaths.{has_no_input, has_no_output, is_need_unmet, loop_findings, need_findings, path_findings, queue_findings, shared_queues}
+use Rattle.j39_vehicle_findings.specs.FoundPaths.{are_two_forwards, content_findings, copies_other_layout, differences, end_findings, has_many_inputs}
+use Rattle.j39_vehicle_findings.specs.FoundPaths.{has_many_outputs}
+use Rattle.j39_vehicle_findings.specs.FoundPaths.{has_no_input, has_no_output, is_need_unmet, loop_findings, need_findings, path_findings, queue_findings}
+use Rattle.j39_vehicle_findings.specs.FoundPaths.{shared_queues}
 use Rattle.j39_vehicle_findings.specs.FoundPaths.{vehicle_findings}
 use Rattle.j39_vehicle_findings.specs.declared.finding.VehicleFinding.{VehicleFinding}
-use Rattle.j39_vehicle_findings.specs.declared.finding.VehicleFinding.TheVariants.{NoInput, ManyInputs, NoOutput, ManyOutputs, LayoutDiffers, SignalDiffers, TwoForwards}
+use Rattle.j39_vehicle_findings.specs.declared.finding.VehicleFinding.TheVariants.{NoInput, ManyInputs, NoOutput, ManyOutputs, LayoutDiffers, SignalDiffers}
+use Rattle.j39_vehicle_findings.specs.declared.finding.VehicleFinding.TheVariants.{TwoForwards}
 use Rattle.j39_vehicle_findings.specs.declared.finding.VehicleFinding.TheVariants.{ForwardLoop, NeedUnmet, SharedQueue}
 use Rattle.j39_vehicle_findings.proofs.Deciding.{Decides-are_two_forwards, Decides-copies_other_layout, Decides-has_many_inputs, Decides-has_many_outputs}
 use Rattle.j39_vehicle_findings.proofs.Deciding.{Decides-has_no_input, Decides-has_no_output, Decides-is_need_unmet}
@@ -92,7 +96,8 @@ found_covered v loops report =
     Covers-append in_order (Holds v) 1 9 14 14 _ _ (omega arith) (omega arith) (omega arith)
     (Covers-append in_order (Holds v) 1 4 5 9 _ _ (omega arith) (omega arith) (omega arith) (ends_covered v)
     (Covers-append in_order (Holds v) 5 7 8 9 _ _ (omega arith) (omega arith) (omega arith) (contents_covered v)
-    (Covers-append in_order (Holds v) 8 8 9 9 _ _ (omega arith) (omega arith) (omega arith) (loops_covered v loops report) (needs_covered v)))) (queues_covered v)
+    (Covers-append in_order (Holds v) 8 8 9 9 _ _ (omega arith) (omega arith) (omega arith) (loops_covered v loops report) (needs_covered v))))
+    (queues_covered v)
 
 -- in one of the parts of a list
 of_three : (xs ys zs : List VehicleFinding) (f : VehicleFinding) → Contains xs f ⊎ (Contains ys f ⊎ Contains zs f) → Contains (xs ++ (ys ++ zs)) f
@@ -110,7 +115,8 @@ in_paths : (loops : List Bool) (v : Vehicle) (f : VehicleFinding)
     → Contains (vehicle_findings loops v) f
 unfolding vehicle_findings path_findings
 in_paths loops v f h =
-    Contains-append_left (path_findings loops v) (queue_findings v) f (of_four (end_findings v) (content_findings v) (loop_findings loops v) (need_findings v) f h)
+    Contains-append_left (path_findings loops v) (queue_findings v) f
+    (of_four (end_findings v) (content_findings v) (loop_findings loops v) (need_findings v) f h)
 
 end_found : (v : Vehicle) (f : VehicleFinding)
     → Contains (each (has_no_input v) NoInput 0 v.forwards.items) f ⊎ (Contains (each (has_many_inputs v) ManyInputs 0 v.forwards.items) f

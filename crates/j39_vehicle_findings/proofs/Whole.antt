@@ -3,10 +3,12 @@ use Rattle.std.proofs.Common.{◌≡◌, ◌≢◌, List, [], ◌++◌, Bool, fa
 use Rattle.std.specs.List.{slice_index_or}
 use Rattle.j39_search.specs.ListPlaces.{each, found_if, in_each, pairs}
 use Rattle.j39_vehicle.specs.declared.vehicle.Vehicle.{Vehicle}
-use Rattle.j39_vehicle_findings.specs.FoundPaths.{are_two_forwards, content_findings, copies_other_layout, differences, end_findings, has_many_inputs, has_many_outputs}
+use Rattle.j39_vehicle_findings.specs.FoundPaths.{are_two_forwards, content_findings, copies_other_layout, differences, end_findings, has_many_inputs}
+use Rattle.j39_vehicle_findings.specs.FoundPaths.{has_many_outputs}
 use Rattle.j39_vehicle_findings.specs.FoundPaths.{has_no_input, has_no_output, is_need_unmet, loop_findings, need_findings, path_findings}
 use Rattle.j39_vehicle_findings.specs.declared.finding.VehicleFinding.{VehicleFinding}
-use Rattle.j39_vehicle_findings.specs.declared.finding.VehicleFinding.TheVariants.{NoInput, ManyInputs, NoOutput, ManyOutputs, LayoutDiffers, TwoForwards, ForwardLoop}
+use Rattle.j39_vehicle_findings.specs.declared.finding.VehicleFinding.TheVariants.{NoInput, ManyInputs, NoOutput, ManyOutputs, LayoutDiffers, TwoForwards}
+use Rattle.j39_vehicle_findings.specs.declared.finding.VehicleFinding.TheVariants.{ForwardLoop}
 use Rattle.j39_vehicle_findings.specs.declared.finding.VehicleFinding.TheVariants.{NeedUnmet}
 
 pub ends_want : (v : Vehicle) → end_findings v ≢ [] → v.forwards.items ≢ []

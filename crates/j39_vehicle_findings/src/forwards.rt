@@ -2,9 +2,11 @@
 ghost use Rattle.std.specs.Prelude.{◌≡◌};
 ghost use Rattle.std.specs.List.{list_any};
 ghost use Rattle.j39_network.specs.Serving.{meets};
-ghost use Rattle.j39_vehicle_findings.specs.ForwardEnds.{need_of_hearer, input_flows, listed, output_flows, units_of_gateway};
+ghost use Rattle.j39_vehicle_findings.specs.ForwardEnds.{need_of_hearer, input_flows, listed, output_flows};
+ghost use Rattle.j39_vehicle_findings.specs.ForwardEnds.{units_of_gateway};
 ghost use Rattle.j39_vehicle_findings.specs.ForwardTests.{copies, feeds, goes_to_receiver, is_unit_among, is_direct};
-ghost use Rattle.j39_vehicle_findings.specs.ForwardTests.{is_between_units, is_followed, is_input, is_output, write_one_signal};
+ghost use Rattle.j39_vehicle_findings.specs.ForwardTests.{is_between_units, is_followed, is_input, is_output};
+ghost use Rattle.j39_vehicle_findings.specs.ForwardTests.{write_one_signal};
 ghost use Rattle.j39_vehicle_findings.specs.ForwardTests.{writes};
 ghost use Rattle.j39_vehicle_findings.specs.Traces.{first_input};
 

@@ -1,9 +1,11 @@
 //! When what one signal says can stand in another one.
 ghost use Rattle.std.specs.Prelude.{◌≡◌, ◌==◌, ◌&&◌, ◌-◌, ◌*◌, ◌%◌, ◌≤◌, ◌*ℤ◌, pos};
 ghost use Rattle.j39_signal.specs.Places.{WidthFits};
-ghost use Rattle.j39_vehicle_findings.specs.Matching.{first_value, has_value, has_values_of, is_on_steps, last_value, steps_above};
+ghost use Rattle.j39_vehicle_findings.specs.Matching.{first_value, has_value, has_values_of, is_on_steps, last_value};
+ghost use Rattle.j39_vehicle_findings.specs.Matching.{steps_above};
 ghost use Rattle.j39_vehicle_findings.specs.Matching.{steps_below};
-ghost use Rattle.j39_vehicle_findings.specs.MatchTests.{agree, are_alike, are_same_numbers, are_same_units, has, is_always_value};
+ghost use Rattle.j39_vehicle_findings.specs.MatchTests.{agree, are_alike, are_same_numbers, are_same_units, has};
+ghost use Rattle.j39_vehicle_findings.specs.MatchTests.{is_always_value};
 ghost use Rattle.j39_vehicle_findings.specs.MatchTests.{is_trouble_code, kind_number, may_be_unset, same_scale};
 
 use j39_id::Label;
@@ -60,8 +62,8 @@ fn is_code(kind: Kind) -> bool
     }
 }
 
-/// Whether the two mean the same, as far as it is reported by their units of measurement, their numbers (SPN), and their
-/// kinds.
+/// Whether the two mean the same, as far as it is reported by their units of measurement, their numbers (SPN), and
+/// their kinds.
 pub fn are_alike(
     one: &Signal,
     one_number: Option<u32>,

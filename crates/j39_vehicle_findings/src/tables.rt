@@ -20,7 +20,8 @@ pub struct PathTables {
 }
 
 fn inputs_of(alloc: Global, vehicle: &Vehicle) -> Result<Vec<Option<usize>>, AllocError>
-    ensures inputs { IfOk result (λ inputs. inputs.items ≡ map (spec.first_input vehicle.now) vehicle.now.forwards.items) }
+    ensures inputs { IfOk result (λ inputs. inputs.items ≡ map
+        (spec.first_input vehicle.now) vehicle.now.forwards.items) }
     ensures memory { OnErr result (vehicle.now.forwards.items ≢ []) }
 {
     let mut inputs = Vec::new(alloc);

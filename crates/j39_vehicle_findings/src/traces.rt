@@ -4,7 +4,8 @@ ghost use Rattle.std.specs.List.{position};
 ghost use Rattle.std.specs.Option.{option_copied};
 ghost use Rattle.j39_vehicle_findings.specs.ForwardEnds.{listed};
 ghost use Rattle.j39_vehicle_findings.specs.Traces as spec;
-ghost use Rattle.j39_vehicle_findings.specs.Traces.{agreeing_in, behind_forward, carries, copied_into, first_agreeing, goes_into};
+ghost use Rattle.j39_vehicle_findings.specs.Traces.{agreeing_in, behind_forward, carries, copied_into, first_agreeing};
+ghost use Rattle.j39_vehicle_findings.specs.Traces.{goes_into};
 ghost use Rattle.j39_vehicle_findings.specs.Traces.{is_sent_by, put_into};
 
 use crate::buses::{flows_on, group_at};

@@ -184,7 +184,8 @@ same_bytes v worlds (another m k n o by carries rest) all x is =
 
 pub divisor_of : (v : Vehicle) (p : Point) (s : SignalParts) → signal_at v p ≡ Some s → 1 ≤ s.per
 divisor_of v p s is =
-    let (flow, flow_is, rest) = parts_of (λ (flow : FlowPlan). option_and_then (signal_of v (group_of_point p.at.bus flow)) p.signal) (flow_on_bus v p.at) s is in
+    let (flow, flow_is, rest) = parts_of (λ (flow : FlowPlan). option_and_then (signal_of v (group_of_point p.at.bus flow)) p.signal)
+    (flow_on_bus v p.at) s is in
     let (j, signal, there) = parts_of (signal_of v (group_of_point p.at.bus flow)) p.signal s rest in
     let (g, g_is, at) = parts_of (λ (group : GroupPlan). slice_get group.signals.items j) (group_at v.buses.items (group_of_point p.at.bus flow)) s there in
     let divides = one_of_all (λ (s : SignalParts). IsDivisor s.per) g.signals.items j s g.signal_divisors at in

@@ -1,5 +1,6 @@
 -- The example has no findings, and in its run the need's unit reports what the gateway sends on.
-use Rattle.std.proofs.Common.{◌≡◌, ◌≢◌, ℕ, zero, suc, ◌<◌, List, [], ◌∷◌, ◌++◌, Bool, true, false, Some, None, Decides, inl, inr, sym, refl, ap, ◌∙◌, subst, arith}
+use Rattle.std.proofs.Common.{◌≡◌, ◌≢◌, ℕ, zero, suc, ◌<◌, List, [], ◌∷◌, ◌++◌, Bool, true, false, Some, None, Decides, inl, inr, sym, refl, ap, ◌∙◌, subst}
+use Rattle.std.proofs.Common.{arith}
 use Rattle.std.specs.Prelude.{cond, pos}
 use Rattle.std.specs.Global.{Global}
 use Rattle.std.specs.List.{slice_get, slice_index_or}
@@ -16,7 +17,8 @@ use Rattle.j39_world.specs.Transfers.{Begun}
 use Rattle.j39_world.specs.World.{all_off}
 use Rattle.j39_vehicle.specs.declared.vehicle.bus_plan.BusPlan.{BusPlan}
 use Rattle.j39_vehicle.specs.declared.vehicle.forward.Forward.{Forward}
-use Rattle.j39_vehicle_findings.specs.FoundPaths.{content_findings, end_findings, loop_findings, need_findings, path_findings, queue_findings, some_at, vehicle_findings}
+use Rattle.j39_vehicle_findings.specs.FoundPaths.{content_findings, end_findings, loop_findings, need_findings, path_findings, queue_findings, some_at}
+use Rattle.j39_vehicle_findings.specs.FoundPaths.{vehicle_findings}
 use Rattle.j39_vehicle_findings.specs.ForwardEnds.{ComesAfter, FollowsAt, IsAmong, IsInput, at_once, later, units_of_gateway}
 use Rattle.j39_vehicle_findings.specs.Traces.{IsNeedFlow, is_from_origin, point_on, trace_end}
 use Rattle.j39_vehicle_findings.specs.VehicleFindings.{AreFindings}

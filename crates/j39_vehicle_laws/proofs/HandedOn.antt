@@ -30,7 +30,8 @@ among_whole m (x ∷ xs) (y ∷ ys) (inl (same, rest)) (e ∷ earlier) later at 
 pub from_origin : (g : Gateway) (carried : ℕ → List ℕ → List ℕ) (from to : World) → AreReportsSound from → AreReportsSound to
     → IsFaithful g carried from to → IsFromOrigin g carried from to
 from_origin g carried from to sound there faithful hearer bytes message =
-    let begun = among_whole _ (reported to.reports hearer g.sends) (to.begun g.sends hearer) (there.begun hearer g.sends) message.earlier message.later message.at in
+    let begun = among_whole _ (reported to.reports hearer g.sends) (to.begun g.sends hearer)
+    (there.begun hearer g.sends) message.earlier message.later message.at in
     let heard = faithful hearer bytes begun in
     among_whole _ (reported from.reports g.hears g.sender) (from.begun g.sender g.hears) (sound.begun g.hears g.sender) heard.earlier heard.later heard.at
 
@@ -61,7 +62,8 @@ reads_as_before plan sound place group its s before m t =
     let at : get_or plan.groups.items place group ≡ group = get_or_from_slice_get plan.groups.items place group group its in
     let all : (start : List ℕ) → IsBlankOf group start → ReadsLastGiven start (signals_in group (length start)) =
     subst (λ g. (start : List ℕ) → IsBlankOf g start → ReadsLastGiven start (signals_in g (length start))) at
-    (All-get_or (λ g. (start : List ℕ) → IsBlankOf g start → ReadsLastGiven start (signals_in g (length start))) plan.groups.items place group inside sound.last_given) in
+    (All-get_or (λ g. (start : List ℕ) → IsBlankOf g start → ReadsLastGiven start
+    (signals_in g (length start))) plan.groups.items place group inside sound.last_given) in
     let reads = all m.start m.blank in
     elim (m.put t) [
       | inl (a, b, value, raw, same) ↦ inl (a, b, value, reads.given m.earlier m.later m.write m.chain m.last b t raw, same)

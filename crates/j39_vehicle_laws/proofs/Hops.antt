@@ -1,5 +1,6 @@
 -- From one message of a trace to the one that it carries: what its signal reads there.
-use Rattle.std.proofs.Common.{◌≡◌, ℕ, ◌==◌, ◌<◌, ◌⊎◌, List, [], All, length, Bool, true, false, if◌then◌else◌, Option, Some, None, inl, inr, sym, refl, ap, ◌∙◌, subst}
+use Rattle.std.proofs.Common.{◌≡◌, ℕ, ◌==◌, ◌<◌, ◌⊎◌, List, [], All, length, Bool, true, false, if◌then◌else◌, Option, Some, None, inl, inr, sym, refl, ap, ◌∙◌}
+use Rattle.std.proofs.Common.{subst}
 use Rattle.std.proofs.Common.{arith}
 use Rattle.std.specs.Prelude.{ℤ, pos, ◌*ℤ◌}
 use Rattle.std.specs.List.{position, slice_get}
@@ -74,7 +75,8 @@ same_group b c g h same alike = ap (λ x. group_place x g) same ∙ ap (λ x. gr
 sent_signal : (v : Vehicle) (n : Forward) (p : Point) (t : SignalParts) → Feeds v n p.at → signal_at v p ≡ Some t
     → (j : ℕ) × (p.signal ≡ Some j) × (signal_of v n.output j ≡ Some t)
 sent_signal v n p t feeds is =
-    let (flow, flow_is, rest) = parts_of (λ (flow : FlowPlan). option_and_then (signal_of v (group_of_point p.at.bus flow)) p.signal) (flow_on_bus v p.at) t is in
+    let (flow, flow_is, rest) = parts_of (λ (flow : FlowPlan). option_and_then (signal_of v (group_of_point p.at.bus flow)) p.signal)
+    (flow_on_bus v p.at) t is in
     let (j, signal, there) = parts_of (signal_of v (group_of_point p.at.bus flow)) p.signal t rest in
     let output = feeds.1 in
     let its : flow_on_bus v p.at ≡ Some output.value = subst (λ b. flow_on_bus v (flow_place b p.at.flow) ≡ Some output.value) feeds.0 output.value_is in
@@ -236,7 +238,8 @@ listed_there : (v : Vehicle) (place : ℕ) (n : Forward) → slice_get v.forward
     → slice_get (listed n) k ≡ Some f → (s : SignalParts) × (signal_of v n.input f.read ≡ Some s)
 listed_there v place n its k f f_is =
     let there = one_of_all (HasForward v.buses.items v.gateways.items) v.forwards.items place n v.forward_places its in
-    signal_there v n.input f.read (one_listed (λ (s : ForwardedSignal). s.read < signals_at v.buses.items n.input) (λ signals. signals.items) n.signals there.read k f f_is)
+    signal_there v n.input f.read (one_listed (λ (s : ForwardedSignal). s.read < signals_at v.buses.items n.input)
+    (λ signals. signals.items) n.signals there.read k f f_is)
 
 -- the trace goes on with a signal, and where this reads a value in the message that is carried, the signal that it goes into reads it
 abbrev pub IsPassedOver : Vehicle → Point → List ℕ → SignalParts → List ℕ → Type 0

@@ -27,7 +27,8 @@ use Rattle.j39_vehicle_findings.specs.VehicleFindings.{AreAtOdds, AreFindings, A
 use Rattle.j39_vehicle_findings.specs.declared.finding.VehicleFinding.TheVariants.{LayoutDiffers, SharedQueue, SignalDiffers, TwoForwards}
 use Rattle.j39_vehicle_findings.specs.declared.point.FlowAt.{FlowAt}
 use Rattle.j39_vehicle_findings.proofs.Deciding.{Decides-are_alike, Decides-copies}
-use Rattle.j39_vehicle_laws.specs.PlainForwards.{CopiesHaveRecords, InputsAreNamed, MeansTheSame, PutsInto, SharedQueuesKeepOrder, SignalsMeanTheSame, SourcesAreOne}
+use Rattle.j39_vehicle_laws.specs.PlainForwards.{CopiesHaveRecords, InputsAreNamed, MeansTheSame, PutsInto, SharedQueuesKeepOrder, SignalsMeanTheSame}
+use Rattle.j39_vehicle_laws.specs.PlainForwards.{SourcesAreOne}
 use Rattle.j39_vehicle_laws.proofs.Forwarding.{first_is_input, nothing_holds, put_is_listed}
 use Rattle.j39_vehicle_laws.proofs.Places.{one_passes, parts_of}
 

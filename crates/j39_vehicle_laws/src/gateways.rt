@@ -23,5 +23,6 @@ pub fn what_is_read_was_written()
     ensures read { (plan : Plan) → SoundSignals plan → (place : ℕ) (group : GroupPlan)
         → slice_get plan.groups.items place ≡ Some group
         → (s : SignalParts) (before : List ℕ) (m : Forwarded group s before)
-        → HoldsAt (λ t. ReadsAsBefore s before t (forwarded_bytes m)) (signals_in group (length m.start)) m.write.place }
+        → HoldsAt (λ t. ReadsAsBefore s before t (forwarded_bytes m))
+        (signals_in group (length m.start)) m.write.place }
 {}

@@ -25,8 +25,8 @@ use j39_run_laws::{
 /// keep what they have to keep of the messages that they send on: a message of a flow of a need that the need's unit
 /// reports carries, forward by forward along its trace, one that was begun by the unit from which the need wants it, or
 /// none. Where only copies are on the way its bytes are the same. Where all that goes into signals on the way is copied
-/// or exact, the need's signal reads no value in it, or the one that the trace's last signal reads in the message of the
-/// origin.
+/// or exact, the need's signal reads no value in it, or the one that the trace's last signal reads in the message of
+/// the origin.
 pub fn nothing_is_altered()
     ensures { (v : Vehicle) → AreFindings v [] → IsUnaltered v }
 {
@@ -48,10 +48,11 @@ pub fn copies_can_be_sent()
     ensures { (v : Vehicle) → AreFindings v [] → CopiesCanBeSent v }
 {}
 
-/// Of a vehicle without findings, in the words of its file. The first input of a forward is of the group and of the unit
-/// that it names, and none of the gateway's own (`inputs`; of each vehicle). What is sent has one source for each of its
-/// signals (`sources`), which has the same unit of measurement and the same number (`meanings`), and records as far apart
-/// (`records`). And of the gateway's units on one bus none has a queue without order where there are two (`queues`).
+/// Of a vehicle without findings, in the words of its file. The first input of a forward is of the group and of the
+/// unit that it names, and none of the gateway's own (`inputs`; of each vehicle). What is sent has one source for each
+/// of its signals (`sources`), which has the same unit of measurement and the same number (`meanings`), and records as
+/// far apart (`records`). And of the gateway's units on one bus none has a queue without order where there are two
+/// (`queues`).
 pub fn forwards_are_as_named()
     ensures inputs { (v : Vehicle) → InputsAreNamed v }
     ensures records { (v : Vehicle) → AreFindings v [] → CopiesHaveRecords v }

@@ -47,7 +47,8 @@ added_at (x ∷ xs) y = added_at xs y
 pub length_more : {A : Type 0} (xs : List A) (y : A) → length (xs ++ y ∷ []) ≡ length xs + 1
 length_more xs y = length-append xs (y ∷ [])
 
-pub one_more : (buses : List BusPlan) (stated : List Stated) (next : Stated) (bus : BusPlan) → AreSoFar buses stated → slice_get buses (length stated) ≡ Some bus
+pub one_more : (buses : List BusPlan) (stated : List Stated) (next : Stated) (bus : BusPlan) → AreSoFar buses stated
+    → slice_get buses (length stated) ≡ Some bus
     → AreDelaysOn bus.plan (timing_of bus.plan) next.items → AreSoFar buses (stated ++ next ∷ [])
 one_more buses stated next bus before is on = record {
   each = λ b other less at. elim (cases_lt b (length stated)) [

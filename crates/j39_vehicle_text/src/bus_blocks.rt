@@ -72,7 +72,8 @@ impl PlansFound {
     // With the findings of one more plan.
     fn with(self, answer: &PlanAnswer) -> PlansFound
         requires { self.count ≤ 2 ^ 100 }
-        ensures count { result.count ≡ self.count + (length answer.now.findings.items + length (load_findings_in answer.now)) }
+        ensures count { result.count ≡ self.count + (length answer.now.findings.items + length
+            (load_findings_in answer.now)) }
         ensures few { result.count ≤ self.count + 2 ^ 64 }
         ensures are_of_times { result.are_of_times
             ≡ (self.are_of_times && are_of_times answer.now.findings.items (load_findings_in answer.now)) }

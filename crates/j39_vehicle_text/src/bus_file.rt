@@ -2,7 +2,8 @@
 ghost use Rattle.std.specs.Prelude.{◌≡◌, ◌++◌, IfOk, OnOk, OnSome};
 ghost use Rattle.j39_stream.specs.CommandEnds.{AnswersWhole, PutsText};
 ghost use Rattle.j39_stream.specs.Streams.{plan_limits};
-ghost use Rattle.j39_vehicle_text.specs.VehicleFileText.{IsBusPlanText, IsBusRefusal, IsRefusedBus, RefusesBus, RefusesBusChoices, bus_choices};
+ghost use Rattle.j39_vehicle_text.specs.VehicleFileText.{IsBusPlanText, IsBusRefusal, IsRefusedBus, RefusesBus};
+ghost use Rattle.j39_vehicle_text.specs.VehicleFileText.{RefusesBusChoices, bus_choices};
 ghost use Rattle.j39_vehicle_text.specs.VehicleFileText.{bus_line};
 
 use j39_id::Label;
@@ -78,7 +79,8 @@ pub fn bus_plan<S: Source, W: Sink>(
     source: &mut S,
     sink: &mut W,
 ) -> Result<Option<Plan>, Fault>
-    ensures answers { AnswersWhole (IsBusPlanText label.now.bytes) (IsRefusedBus label.now.bytes) plan_limits (S.state source.old) (S.state source.new)
+    ensures answers { AnswersWhole (IsBusPlanText label.now.bytes) (IsRefusedBus label.now.bytes) plan_limits
+        (S.state source.old) (S.state source.new)
         W.state sink.old sink.new result }
     ensures writes_nothing { IfOk result (λ plan. OnSome plan (sink.new ≡ sink.old)) }
 {

@@ -28,7 +28,8 @@ pub fn vehicle_file<S: Source, W: Sink>(
     source: &mut S,
     sink: &mut W,
 ) -> Result<Option<VehicleFile>, Fault>
-    ensures answers { AnswersWhole IsVehicleFileText IsRefusedVehicle plan_limits (S.state source.old) (S.state source.new) W.state sink.old sink.new result }
+    ensures answers { AnswersWhole IsVehicleFileText IsRefusedVehicle plan_limits (S.state source.old)
+        (S.state source.new) W.state sink.old sink.new result }
     ensures writes_nothing { IfOk result (λ file. OnSome file (sink.new ≡ sink.old)) }
 {
     let input = read_whole(alloc, source)?;

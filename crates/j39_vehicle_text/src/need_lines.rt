@@ -1,7 +1,8 @@
 //! The lines of needs.
 ghost use Rattle.std.specs.Prelude.{◌≡◌, ◌++◌, Some, None, OnOk};
 ghost use Rattle.j39_vehicle_times.specs.declared.needs.NeedFlow.{NeedFlow as ReportedFlows};
-ghost use Rattle.j39_vehicle_text.specs.NeedLines.{reported_flow_text, content_text, group_of_flow, limit_text, meant_text, met_text};
+ghost use Rattle.j39_vehicle_text.specs.NeedLines.{reported_flow_text, content_text, group_of_flow, limit_text};
+ghost use Rattle.j39_vehicle_text.specs.NeedLines.{meant_text, met_text};
 ghost use Rattle.j39_vehicle_text.specs.NeedLines.{need_age_text, origin_content, origin_text, reported_text};
 ghost use Rattle.j39_vehicle_text.specs.NeedLines.{vehicle_need_lines, vehicle_need_text};
 
@@ -155,7 +156,8 @@ fn write_age_flow(
     need: &VehicleNeed,
     stated: NeedFlow,
 ) -> WriteResult
-    ensures { OnOk result (text.new ≡ text.old ++ reported_flow_text routes.now.vehicle.now need.now stated.flow stated.age) }
+    ensures { OnOk result
+        (text.new ≡ text.old ++ reported_flow_text routes.now.vehicle.now need.now stated.flow stated.age) }
 {
     match stated.age {
         Some(_) if 1 < need_flow_count(routes, need) => text.place(" flow ", stated.flow),

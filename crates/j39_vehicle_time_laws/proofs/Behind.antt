@@ -222,7 +222,8 @@ module _ (v : Vehicle) (delays : Delays) (stated : AreDelays v delays) (seen : S
           (in_all (time_of (clock_on v seen at.bus) ((seen at.bus).schedule.queued q + (one.wait + one.stream.bits))) (queue_time (frames_at v seen at) q)
           (end_time (frames_at v seen x) (sent.handed.what q)) ((seen x.bus).release (sent.handed.what q))
           ((seen at.bus).release q)
-          before within time by (last_of q) (sent.handed.within_time q its) (input.ended (sent.handed.what q) (sent.handed.begun q its)) (sent.handed.releases q its) early);
+          before within time by (last_of q) (sent.handed.within_time q its) (input.ended (sent.handed.what q) (sent.handed.begun q its))
+          (sent.handed.releases q its) early);
       ended = λ q begun.
           in_sum (end_time (frames_at v seen at) q) (queue_time (frames_at v seen at) q) (end_time (frames_at v seen x) (sent.handed.what q))
           ((seen x.bus).release (sent.handed.what q)) ((seen at.bus).release q) before within time (ends_from q begun) (sent.handed.within_time q begun.0)
@@ -240,7 +241,8 @@ module _ (v : Vehicle) (delays : Delays) (stated : AreDelays v delays) (seen : S
   flow_of : (at : FlowAt) → is.scope.flows at ≡ true → (time : ℕ) → own v delays at ≡ Some time → IsOneFlow v delays seen at time
   flow_of at among time known =
       let has = own_parts v delays at time known in
-      one_flow v delays stated at time has (none_ask v at has.flow has.its (is.closed.unasked at among)) is.scope (is.closed.its_bus at among) among seen is.kept known
+      one_flow v delays stated at time has (none_ask v at has.flow has.its (is.closed.unasked at among)) is.scope
+      (is.closed.its_bus at among) among seen is.kept known
 
   -- what is sent on directly to a flow of the scope is of the scope too
   pub source_among : (at : FlowAt) → is.scope.flows at ≡ true → (n : Forward) (source : FlowAt) (time : ℕ) → direct_feeder v at ≡ Some n

@@ -21,14 +21,16 @@ use Rattle.j39_vehicle.specs.declared.vehicle.forward.Forward.{Forward}
 use Rattle.j39_vehicle_findings.specs.declared.point.FlowAt.{FlowAt}
 use Rattle.j39_vehicle_times.specs.BusDelays.{AreDelays}
 use Rattle.j39_vehicle_times.specs.declared.bus_delays.Delays.{Delays}
-use Rattle.j39_vehicle_times.specs.Times.{askers_on, behind_at, behind_by, behind_release, delay_at, direct_feeder, flow_at, first_input_at, jitter_ms, own, own_of}
+use Rattle.j39_vehicle_times.specs.Times.{askers_on, behind_at, behind_by, behind_release, delay_at, direct_feeder, flow_at, first_input_at, jitter_ms, own}
+use Rattle.j39_vehicle_times.specs.Times.{own_of}
 use Rattle.j39_vehicle_times.specs.Times.{queued_behind, queued_of, sum_known, timing_on, us_of_ms, within_of}
 use Rattle.j39_vehicle_time_laws.specs.ForwardedStreams.{streams_of}
 use Rattle.j39_vehicle_time_laws.specs.KeptBuses.{IsKnownBus, asked_on}
 use Rattle.j39_vehicle_time_laws.specs.Prompt.{Scope, sent_from}
 use Rattle.j39_vehicle_time_laws.specs.Seen.{SeenBuses, clock_on, longest_bit, of_us, shortest_bit}
 use Rattle.j39_vehicle_time_laws.proofs.Behind.{fed_never, fed_parts, unfed_release}
-use Rattle.j39_vehicle_time_laws.proofs.OneFlow.{HasOwn, HasStream, bound, its_stream, jitter_room, known_bus, own_from, own_is, placed, release_fits, release_is}
+use Rattle.j39_vehicle_time_laws.proofs.OneFlow.{HasOwn, HasStream, bound, its_stream, jitter_room, known_bus, own_from, own_is, placed, release_fits}
+use Rattle.j39_vehicle_time_laws.proofs.OneFlow.{release_is}
 use Rattle.j39_vehicle_time_laws.proofs.Parts.{some_cases}
 use Rattle.j39_vehicle_time_laws.proofs.TrueTimes.{near_here}
 
@@ -216,7 +218,8 @@ module _ (v : Vehicle) (scope : Scope) (delays : Delays) (stated : AreDelays v d
 
     pub release_room : longest_bit v b * delay_of (stream_of t i) (wait_with b i (Some t)) ≤ of_us (us_of_bits t.timing is.bits)
     release_room =
-        let same : longest_bit v b * delay_of (stream_of t i) (wait_with b i (Some t)) ≡ longest_bit v b * delay_of bounded_here.frames.stream bounded_here.wait =
+        let same : longest_bit v b * delay_of (stream_of t i) (wait_with b i (Some t))
+        ≡ longest_bit v b * delay_of bounded_here.frames.stream bounded_here.wait =
         ap (λ (w : ℕ). longest_bit v b * delay_of (stream_of t i) w) wait_is ∙ ap (λ (x : Stream). longest_bit v b * delay_of x bounded_here.wait) stream_is in
         let fits = release_fits v delays stated (at_of b i) (own_of t.timing is.flow is.bits) has is.none_asks in
         omega (arith, same, fits)

@@ -24,7 +24,8 @@ unfolding interval_by
 unfed_pause v zero at pause none is =
     subst (λ (o : Option Forward). option_and_then (λ flow. option_map_or (λ n. None) o (pause_on v at flow)) (unasked_at v at) ≡ Some pause) none is
 unfed_pause v (suc steps) at pause none is =
-    subst (λ (o : Option Forward). option_and_then (λ flow. option_map_or (λ n. option_and_then (interval_by v steps) (first_input_at v n)) o (pause_on v at flow))
+    subst (λ (o : Option Forward). option_and_then (λ flow. option_map_or (λ n. option_and_then (interval_by v steps) (first_input_at v n)) o
+    (pause_on v at flow))
     (unasked_at v at) ≡ Some pause)
     none is
 
@@ -40,7 +41,8 @@ fed_interval : (v : Vehicle) (steps : ℕ) (at : FlowAt) (pause : ℕ) (n : Forw
 unfolding interval_by
 fed_interval v steps at pause n feeder is =
     let (flow, its, known) = and_then_some (λ (flow : FlowPlan). option_and_then (interval_by v steps) (first_input_at v n)) (unasked_at v at) pause
-    (subst (λ (o : Option Forward). option_and_then (λ flow. option_map_or (λ n. option_and_then (interval_by v steps) (first_input_at v n)) o (pause_on v at flow))
+    (subst (λ (o : Option Forward). option_and_then (λ flow. option_map_or (λ n. option_and_then (interval_by v steps) (first_input_at v n)) o
+    (pause_on v at flow))
     (unasked_at v at) ≡ Some pause)
     feeder is) in
     and_then_some (interval_by v steps) (first_input_at v n) pause known
@@ -80,7 +82,11 @@ module _ (v : Vehicle) (delays : Delays) (stated : AreDelays v delays) (seen : S
           → within_of n ≡ Some within → time ≡ before + (within + own) → IsBehind v delays seen by x before → IsBehind v delays seen by y time
           → KeepsOn v seen x pause before from by → KeepsOn v seen y pause time from by
       sends_releases x y among pause n feeder source within before own time promised sum input output keeps t low high =
-          let (place, feeding, sent) = sends_directly v delays stated seen by is y among n x within before output.own_time feeder source promised output.one input in
+          let (
+            place,
+            feeding,
+            sent,
+          ) = sends_directly v delays stated seen by is y among n x within before output.own_time feeder source promised output.one input in
           let (p, its, before_t, near) = keeps t low (shorter t before within own time by sum high) in
           let (q, it, what) = sent.each p (input.begun p its (earlier ((seen x.bus).release p) t before within own time by sum high before_t)) in
           let release : (seen y.bus).release q ≡ (seen x.bus).release p = subst (λ (r : ℕ). (seen y.bus).release q ≡ (seen x.bus).release r) what
@@ -101,7 +107,8 @@ module _ (v : Vehicle) (delays : Delays) (stated : AreDelays v delays) (seen : S
         (λ none. own_pause at pause time direct none (unfed_pause v (suc steps) at pause none interval))
         (λ n feeder.
         let (x, source, its) = fed_interval v steps at pause n feeder interval in
-        passed_on x at among pause n feeder source k time known (λ too j before behind. comes steps x too pause (sent_on x at n direct feeder source) its j before behind))
+        passed_on x at among pause n feeder source k time known (λ too j before behind. comes steps x too pause
+        (sent_on x at n direct feeder source) its j before behind))
 
     pub keeps_on : (steps : ℕ) (pause : ℕ) → interval_by v steps point.at ≡ Some pause → (k time : ℕ) → behind_by v delays k point.at ≡ Some time
         → KeepsOn v seen point.at pause time from by

@@ -27,7 +27,8 @@ use Rattle.j39_vehicle.specs.declared.vehicle.forward.Forward.{Forward}
 use Rattle.j39_vehicle_findings.specs.declared.point.FlowAt.{FlowAt}
 use Rattle.j39_vehicle_times.specs.declared.bus_delays.Delays.{Delays}
 use Rattle.j39_vehicle_times.specs.TimeFindings.{period_ms}
-use Rattle.j39_vehicle_times.specs.Times.{askers_on, behind_at, behind_by, delay_at, direct_feeder, flow_at, first_input_at, jitter_ms, latest_ms, own, queued_of, shortest_on, sum_known, timing_on}
+use Rattle.j39_vehicle_times.specs.Times.{askers_on, behind_at, behind_by, delay_at, direct_feeder, flow_at, first_input_at, jitter_ms, latest_ms, own}
+use Rattle.j39_vehicle_times.specs.Times.{queued_of, shortest_on, sum_known, timing_on}
 use Rattle.j39_vehicle_times.specs.Times.{us_of_ms, within_of}
 use Rattle.j39_vehicle_times.proofs.DecidingTimes.{and_then_some}
 use Rattle.j39_vehicle_time_laws.specs.ForwardedStreams.{AreForwardsTimely, AreOtherwiseKept, AreStreamsKept, IsOtherwiseKept, streams_of}
@@ -35,7 +36,8 @@ use Rattle.j39_vehicle_time_laws.specs.KeptBuses.{AreKeptBuses, IsKnownBus, aske
 use Rattle.j39_vehicle_time_laws.specs.Prompt.{ArePrompt, HaveOwnReleases, IsScope, IsSentDirectly, Scope, scope_on, sent_from}
 use Rattle.j39_vehicle_time_laws.specs.Seen.{SeenBuses, frames_at, longest_bit, of_us}
 use Rattle.j39_vehicle_time_laws.proofs.Behind.{fed_never, fed_parts, unfed_release}
-use Rattle.j39_vehicle_time_laws.proofs.Circle.{IsStated, TimedBus, all_of, at_of, behind_value, behind_with, bounded_here, bus_with, direct_with, is_some_false}
+use Rattle.j39_vehicle_time_laws.proofs.Circle.{IsStated, TimedBus, all_of, at_of, behind_value, behind_with, bounded_here, bus_with, direct_with}
+use Rattle.j39_vehicle_time_laws.proofs.Circle.{is_some_false}
 use Rattle.j39_vehicle_time_laws.proofs.Circle.{is_some_true, late_value, of_bus, owns, period_value, queued_value, single_here, stream_of, streamed}
 use Rattle.j39_vehicle_time_laws.proofs.Circle.{view, viewed, wait_is, wait_with, within_value}
 use Rattle.j39_vehicle_time_laws.proofs.Feeders.{feeder_is}
@@ -111,7 +113,8 @@ module _ (v : Vehicle) (scope : Scope) (delays : Delays) (stated : AreDelays v d
   }
 
   abbrev keeps : {b : ℕ} → (t : TimedBus v scope b)
-      → IsOtherwiseKept v delays b t.timing (asked_on (of_bus v scope delays stated seen t)).unplanned_end (all_of v scope delays stated seen t) (scope_on scope b) (seen b)
+      → IsOtherwiseKept v delays b t.timing (asked_on (of_bus v scope delays stated seen t)).unplanned_end (all_of v scope delays stated seen t)
+      (scope_on scope b) (seen b)
   keeps {b} t = kept b t.timing (of_bus v scope delays stated seen t) t.inside
 
   shortest_there : (b : ℕ) (t : TimedBus v scope b) → shortest_on v.buses.items b ≡ shortest_million t.timing
@@ -152,7 +155,8 @@ module _ (v : Vehicle) (scope : Scope) (delays : Delays) (stated : AreDelays v d
       (at_of b i)) x from in
       let (n, feeder, input) = and_then_some (first_input_at v) (direct_feeder v (at_of b i)) x rest in
       let tm = timely (at_of b i) bits n delayed feeder in
-      let (before, within, of_source, promised, sum) = sum_some (option_and_then (behind_at v delays) (first_input_at v n)) (within_of n) tm.queued tm.queued_is in
+      let (before, within, of_source, promised, sum) = sum_some (option_and_then (behind_at v delays) (first_input_at v n))
+      (within_of n) tm.queued tm.queued_is in
       let (y, of_input, known) = and_then_some (behind_at v delays) (first_input_at v n) before of_source in
       let same : y ≡ x = same_Some _ _ (sym of_input ∙ input) in
       let same_input : tm.input ≡ x = same_Some _ _ (sym tm.input_is ∙ input) in
@@ -233,9 +237,12 @@ module _ (v : Vehicle) (scope : Scope) (delays : Delays) (stated : AreDelays v d
     handed_on : IsHandedOn (carrier_of (with_bus (bus_value (sent_from v delays (at_of b i))) (view v scope (bus_value (sent_from v delays (at_of b i)))))
         (flow_value (sent_from v delays (at_of b i)))) (carrier_of (with_bus b (view v scope b)) i) (of_us (within_value v scope delays stated seen b i))
     handed_on =
-        at_source (λ a k. IsHandedOn (carrier_of (with_bus a (view v scope a)) k) (carrier_of (with_bus b (view v scope b)) i) (of_us (within_value v scope delays stated seen b i)))
-        (at_source_bus (λ o. IsHandedOn (carrier_of (with_bus l.x.bus o) l.x.flow) (carrier_of (with_bus b (view v scope b)) i) (of_us (within_value v scope delays stated seen b i)))
-        (at_bus (λ o. IsHandedOn (carrier_of (with_bus l.x.bus (Some l.tx)) l.x.flow) (carrier_of (with_bus b o) i) (of_us (within_value v scope delays stated seen b i)))
+        at_source (λ a k. IsHandedOn (carrier_of (with_bus a (view v scope a)) k) (carrier_of (with_bus b (view v scope b)) i)
+        (of_us (within_value v scope delays stated seen b i)))
+        (at_source_bus (λ o. IsHandedOn (carrier_of (with_bus l.x.bus o) l.x.flow) (carrier_of (with_bus b (view v scope b)) i)
+        (of_us (within_value v scope delays stated seen b i)))
+        (at_bus (λ o. IsHandedOn (carrier_of (with_bus l.x.bus (Some l.tx)) l.x.flow) (carrier_of (with_bus b o) i)
+        (of_us (within_value v scope delays stated seen b i)))
         (subst (λ (w : ℕ). IsHandedOn (frames_at v seen l.x) (frames_at v seen (at_of b i)) (of_us w)) (sym within_is) sent.1.handed)))
 
     its_single : IsSingle ((with_bus b (view v scope b)).traffic.stream i)
@@ -248,13 +255,17 @@ module _ (v : Vehicle) (scope : Scope) (delays : Delays) (stated : AreDelays v d
 
     -- the law of delays of the bus on which it is heard
     begun_there : (by : ℕ) → by ≤ (seen l.x.bus).schedule.now → KeepsItsStreamsUntil (with_bus l.x.bus (Some l.tx)) by
-        → AreBegunUntil (seen l.x.bus).schedule (seen l.x.bus).planned (seen l.x.bus).of l.x.flow (wait_with v scope delays stated seen l.x.bus l.x.flow (Some l.tx)) by
+        → AreBegunUntil (seen l.x.bus).schedule (seen l.x.bus).planned (seen l.x.bus).of l.x.flow
+        (wait_with v scope delays stated seen l.x.bus l.x.flow (Some l.tx)) by
     begun_there by now streams p in_p is source early =
         let ofb = of_bus v scope delays stated seen l.tx in
-        let at_place = delay_here v delays stated l.x _ (Rattle.j39_vehicle_time_laws.proofs.Circle.has v scope delays stated seen l.x.bus l.x.flow l.tx l.there) in
-        let same : wait_with v scope delays stated seen l.x.bus l.x.flow (Some l.tx) ≡ (bounded_here v scope delays stated seen l.x.bus l.x.flow l.tx l.there).wait =
+        let at_place = delay_here v delays stated l.x _
+        (Rattle.j39_vehicle_time_laws.proofs.Circle.has v scope delays stated seen l.x.bus l.x.flow l.tx l.there) in
+        let same : wait_with v scope delays stated seen l.x.bus l.x.flow
+        (Some l.tx) ≡ (bounded_here v scope delays stated seen l.x.bus l.x.flow l.tx l.there).wait =
         wait_is v scope delays stated seen l.x.bus l.x.flow l.tx l.there in
-        let frames = frames_then l.tx.timing (asked_on ofb).unplanned_end (all_of v scope delays stated seen l.tx) (seen l.x.bus).schedule (seen l.x.bus).controllers (seen l.x.bus).planned
+        let frames = frames_then l.tx.timing (asked_on ofb).unplanned_end (all_of v scope delays stated seen l.tx) (seen l.x.bus).schedule
+        (seen l.x.bus).controllers (seen l.x.bus).planned
         (seen l.x.bus).of l.x.flow
         ((keeps l.tx).frames l.x.flow l.there.bits l.among at_place) by now streams in
         let legal = Rattle.j39_timing.proofs.AnyPrefixes.still_legal_in_any_order (seen l.x.bus).schedule (seen l.x.bus).controllers by
@@ -264,11 +275,13 @@ module _ (v : Vehicle) (scope : Scope) (delays : Delays) (stated : AreDelays v d
         (seen l.x.bus).controllers
         (Rattle.j39_timing.specs.Prefixes.planned_until (seen l.x.bus).schedule (seen l.x.bus).planned by) (seen l.x.bus).of legal frames
         (streamed v scope delays stated seen l.x.bus l.x.flow l.tx l.there).single.1 in
-        let soon : (seen l.x.bus).schedule.queued p + (bounded_here v scope delays stated seen l.x.bus l.x.flow l.tx l.there).wait < by = omega (arith, early, same) in
+        let soon : (seen l.x.bus).schedule.queued p + (bounded_here v scope delays stated seen l.x.bus l.x.flow l.tx l.there).wait < by = omega
+        (arith, early, same) in
         let start = started p in_p (then_is_planned (seen l.x.bus).schedule (seen l.x.bus).planned by p is (omega (arith, soon))) source soon in
         omega (arith, start, same)
 
-    input_begun : (by : ℕ) → by ≤ (with_bus (bus_value (sent_from v delays (at_of b i))) (view v scope (bus_value (sent_from v delays (at_of b i))))).schedule.now
+    input_begun : (by : ℕ) → by ≤ (with_bus (bus_value (sent_from v delays (at_of b i)))
+        (view v scope (bus_value (sent_from v delays (at_of b i))))).schedule.now
         → KeepsItsStreamsUntil (with_bus (bus_value (sent_from v delays (at_of b i))) (view v scope (bus_value (sent_from v delays (at_of b i))))) by
         → AreBegunUntil (with_bus (bus_value (sent_from v delays (at_of b i))) (view v scope (bus_value (sent_from v delays (at_of b i))))).schedule
         (with_bus (bus_value (sent_from v delays (at_of b i))) (view v scope (bus_value (sent_from v delays (at_of b i))))).planned
@@ -277,7 +290,8 @@ module _ (v : Vehicle) (scope : Scope) (delays : Delays) (stated : AreDelays v d
         (wait_with v scope delays stated seen (bus_value (sent_from v delays (at_of b i))) (flow_value (sent_from v delays (at_of b i)))
         (view v scope (bus_value (sent_from v delays (at_of b i))))) by
     input_begun by = at_source (λ a k. by ≤ (with_bus a (view v scope a)).schedule.now → KeepsItsStreamsUntil (with_bus a (view v scope a)) by
-        → AreBegunUntil (with_bus a (view v scope a)).schedule (with_bus a (view v scope a)).planned (with_bus a (view v scope a)).of k (wait_with v scope delays stated seen a k
+        → AreBegunUntil (with_bus a (view v scope a)).schedule (with_bus a (view v scope a)).planned (with_bus a (view v scope a)).of k
+        (wait_with v scope delays stated seen a k
         (view v scope a)) by)
         (at_source_bus (λ o. by ≤ (with_bus l.x.bus o).schedule.now → KeepsItsStreamsUntil (with_bus l.x.bus o) by
         → AreBegunUntil (with_bus l.x.bus o).schedule (with_bus l.x.bus o).planned (with_bus l.x.bus o).of l.x.flow
@@ -356,7 +370,8 @@ module _ (v : Vehicle) (scope : Scope) (delays : Delays) (stated : AreDelays v d
   -- of a flow that is sent on directly, and of any other
   module _ (b : ℕ) (t : TimedBus v scope b) (p : ℕ) (in_p : p < (seen b).schedule.count) (is : (seen b).planned p ≡ true) where
     own_frame : is_some (sent_from v delays (at_of b ((seen b).of.source p))) ≡ false
-        → KeepsStream (seen b).schedule (streams_of t.timing (all_of v scope delays stated seen t)).count (streams_of t.timing (all_of v scope delays stated seen t)).stream
+        → KeepsStream (seen b).schedule (streams_of t.timing (all_of v scope delays stated seen t)).count
+        (streams_of t.timing (all_of v scope delays stated seen t)).stream
         (seen b).of p
     own_frame own = (keeps t).own p in_p is (is_some_false (sent_from v delays (at_of b ((seen b).of.source p))) own)
 
@@ -376,7 +391,8 @@ module _ (v : Vehicle) (scope : Scope) (delays : Delays) (stated : AreDelays v d
         (λ t. clock_is v seen b t.timing t.timed (keeps t).clock) (view v scope b);
     some_bits = λ b. case_view v scope b (λ o. (p : ℕ) → p < (with_bus b o).schedule.count → 1 ≤ (with_bus b o).schedule.bits p)
         (λ p in_p. absurd (omega (arith, in_p))) (λ t. (keeps t).legal.positive) (view v scope b);
-    queued_first = λ b. case_view v scope b (λ o. (p : ℕ) → p < (with_bus b o).schedule.count → (with_bus b o).schedule.queued p ≤ (with_bus b o).schedule.start p)
+    queued_first = λ b. case_view v scope b (λ o. (p : ℕ) → p < (with_bus b o).schedule.count
+        → (with_bus b o).schedule.queued p ≤ (with_bus b o).schedule.start p)
         (λ p in_p. absurd (omega (arith, in_p))) (λ t. (keeps t).legal.queued_first) (view v scope b);
     known = λ b. case_view v scope b (λ o. (p : ℕ) → IsPlannedOn (with_bus b o) p → (with_bus b o).of.source p < (with_bus b o).traffic.count)
         (λ p its. absurd (omega (arith, its.0))) (λ t p its. (any_frame b t p its.0 its.1).0) (view v scope b);
@@ -386,13 +402,16 @@ module _ (v : Vehicle) (scope : Scope) (delays : Delays) (stated : AreDelays v d
     turns = λ b. case_view v scope b (λ o. (p : ℕ) → IsPlannedOn (with_bus b o) p
         → (with_bus b o).of.turn p < ((with_bus b o).traffic.stream ((with_bus b o).of.source p)).frames)
         (λ p its. absurd (omega (arith, its.0))) (λ t p its. (any_frame b t p its.0 its.1).2) (view v scope b);
-    own_first = λ b. case_view v scope b (λ o. (p : ℕ) → IsPlannedOn (with_bus b o) p → direct_with v scope delays stated seen b ((with_bus b o).of.source p) o ≡ false
+    own_first = λ b. case_view v scope b (λ o. (p : ℕ) → IsPlannedOn (with_bus b o) p → direct_with v scope delays stated seen b ((with_bus b o).of.source p) o
+        ≡ false
         → (with_bus b o).of.since p ≤ (with_bus b o).schedule.queued p)
         (λ p its. absurd (omega (arith, its.0))) (λ t p its own. (own_frame b t p its.0 its.1 own).release_first) (view v scope b);
-    own_jitter = λ b. case_view v scope b (λ o. (p : ℕ) → IsPlannedOn (with_bus b o) p → direct_with v scope delays stated seen b ((with_bus b o).of.source p) o ≡ false
+    own_jitter = λ b. case_view v scope b (λ o. (p : ℕ) → IsPlannedOn (with_bus b o) p → direct_with v scope delays stated seen b ((with_bus b o).of.source p) o
+        ≡ false
         → (with_bus b o).schedule.queued p ≤ (with_bus b o).of.since p + ((with_bus b o).traffic.stream ((with_bus b o).of.source p)).jitter)
         (λ p its. absurd (omega (arith, its.0))) (λ t p its own. (own_frame b t p its.0 its.1 own).jitter_at_most) (view v scope b);
-    own_release = λ b. case_view v scope b (λ o. (p : ℕ) → IsPlannedOn (with_bus b o) p → direct_with v scope delays stated seen b ((with_bus b o).of.source p) o ≡ false
+    own_release = λ b. case_view v scope b (λ o. (p : ℕ) → IsPlannedOn (with_bus b o) p → direct_with v scope delays stated seen b
+        ((with_bus b o).of.source p) o ≡ false
         → (with_bus b o).release p ≡ Rattle.j39_gateways.specs.Gateways.time_of (with_bus b o).clock ((with_bus b o).of.since p))
         (λ p its. absurd (omega (arith, its.0)))
         (λ t p its own. own_releases (at_of b ((seen b).of.source p)) t.inside (is_some_false (sent_from v delays (at_of b ((seen b).of.source p))) own) p
@@ -477,12 +496,14 @@ module _ (v : Vehicle) (scope : Scope) (delays : Delays) (stated : AreDelays v d
   buses_kept b timing its inside =
       let timed_here : timing_on v.buses.items b ≡ Some timing = ap (option_and_then (λ (bus : BusPlan). timing_of bus.plan)) its.its ∙ its.timed in
       let (t, view_is) = viewed v scope b timing inside timed_here in
-      let streams : KeepsItsStreams (with_bus b (Some t)) = subst (λ (o : Option (TimedBus v scope b)). KeepsItsStreams (with_bus b o)) view_is (streams_kept b) in
+      let streams : KeepsItsStreams (with_bus b (Some t)) = subst (λ (o : Option (TimedBus v scope b)). KeepsItsStreams (with_bus b o)) view_is
+      (streams_kept b) in
       let same = one_traffic v delays b t.timing timing (of_bus v scope delays stated seen t) its in
       record {
         clock = (kept b timing its inside).clock;
         legal = (kept b timing its inside).legal;
-        frames = λ flow bits among at. with_streams timing (asked_on its).unplanned_end (frames_asked (asked_on its)) (seen b).schedule (seen b).controllers (seen b).planned (seen b).of flow
+        frames = λ flow bits among at. with_streams timing (asked_on its).unplanned_end (frames_asked (asked_on its)) (seen b).schedule (seen b).controllers
+            (seen b).planned (seen b).of flow
             ((kept b timing its inside).frames flow bits among at)
             (subst (λ (x : Traffic). AreOfStreams (seen b).schedule (λ p. (seen b).planned p ≡ true) x.count x.stream (seen b).of) same streams);
       }

@@ -1,5 +1,6 @@
 -- A bus on which frames of one flow are seen, of which a delay is reported, or none: that it keeps to its plan.
-use Rattle.std.proofs.Common.{◌≡◌, ◌≢◌, ℕ, zero, suc, ◌+◌, ◌*◌, ◌<◌, ◌≤◌, ◌⊎◌, Bool, true, eqb, List, [], ◌∷◌, ◌++◌, length, Option, Some, None, refl, sym, ap, ◌∙◌, subst}
+use Rattle.std.proofs.Common.{◌≡◌, ◌≢◌, ℕ, zero, suc, ◌+◌, ◌*◌, ◌<◌, ◌≤◌, ◌⊎◌, Bool, true, eqb, List, [], ◌∷◌, ◌++◌, length, Option, Some, None, refl, sym, ap}
+use Rattle.std.proofs.Common.{◌∙◌, subst}
 use Rattle.std.proofs.Common.{inl, inr, arith}
 use Rattle.std.proofs.Math.Nat.{mul-le-mul_right}
 use Rattle.std.proofs.lemmas.Bool.{cases_eq, cases_lt, true≢false}
@@ -136,7 +137,8 @@ module _ (v : Vehicle) (delays : Delays) (b : ℕ) (timing : Timing) (of_bus : I
       let (one, at_one, here) = map_some (load_of_flow timing of_bus.bus.plan of_bus.stays) (slice_get of_bus.bus.plan.flows.items i) (Some its_bound.load)
       (sym (slice_get-map (load_of_flow timing of_bus.bus.plan of_bus.stays) of_bus.bus.plan.flows.items i) ∙ its_bound.its) in
       let (pace, paced, rest) = and_then_some _ one.pace its_bound.load here in
-      let (group, of, made) = map_some (asked_load timing of_bus.bus.plan.requests.items of_bus.bus.plan.units.items of_bus.stays one pace) (slice_get of_bus.bus.plan.groups.items one.group)
+      let (group, of, made) = map_some (asked_load timing of_bus.bus.plan.requests.items of_bus.bus.plan.units.items of_bus.stays one pace)
+      (slice_get of_bus.bus.plan.groups.items one.group)
       its_bound.load rest in
       let short = ap (λ (l : FlowLoad). l.messages) made ∙ its_bound.short in
       let flow_is : flow_at v.buses.items (record { bus = b; flow = i }) ≡ Some one =
@@ -144,7 +146,8 @@ module _ (v : Vehicle) (delays : Delays) (b : ℕ) (timing : Timing) (of_bus : I
       let none_asks : askers_of of_bus.bus.plan.requests.items one ≡ 0 =
       ap (λ (o : Option BusPlan). option_map_or (λ (x : BusPlan). askers_of x.plan.requests.items one) o 0) (sym of_bus.its)
       ∙ none_ask v (record { bus = b; flow = i }) one flow_is unasked in
-      let same : frames_for timing pace (askers_of of_bus.bus.plan.requests.items one) (single_frames timing of_bus.bus.plan.units.items of_bus.stays one pace group)
+      let same : frames_for timing pace (askers_of of_bus.bus.plan.requests.items one)
+      (single_frames timing of_bus.bus.plan.units.items of_bus.stays one pace group)
       ≡ its_bound.frames =
       short_frames timing of_bus.bus.plan.units.items of_bus.stays one pace group (askers_of of_bus.bus.plan.requests.items one) its_bound.frames short in
       let planned : AreUnitsPlanned of_bus.bus.plan one = record {
@@ -160,14 +163,16 @@ module _ (v : Vehicle) (delays : Delays) (b : ℕ) (timing : Timing) (of_bus : I
       let some : 1 ≤ (single_frames timing of_bus.bus.plan.units.items of_bus.stays one pace group).stream.bits = omega arith in
       let here_placed : planned_at (frames_asked (asked_on of_bus) ++ damage_frames timing) i ≡ its_bound.frames =
       with_damage timing (frames_asked (asked_on of_bus)) i its_bound.frames at in
-      let all_same : frames_for timing pace (askers_of of_bus.bus.plan.requests.items one) (single_frames timing of_bus.bus.plan.units.items of_bus.stays one pace group)
+      let all_same : frames_for timing pace (askers_of of_bus.bus.plan.requests.items one)
+      (single_frames timing of_bus.bus.plan.units.items of_bus.stays one pace group)
       ≡ planned_at (frames_asked (asked_on of_bus) ++ damage_frames timing) i =
       same ∙ sym here_placed in (
         group_ident (λ u. (unit_at (units_of of_bus.bus.plan) u).preferred) group one,
         record {
           inside = longer (frames_asked asked) (damage_frames timing) i (get_or_inside (frames_asked asked) i its_bound.frames at);
           unwanted = ap (λ (f : FlowFrames). f.stream.wanted) (sym all_same)
-              ∙ ap (λ (k : ℕ). (frames_for timing pace k (single_frames timing of_bus.bus.plan.units.items of_bus.stays one pace group)).stream.wanted) none_asks;
+              ∙ ap (λ (k : ℕ). (frames_for timing pace k
+              (single_frames timing of_bus.bus.plan.units.items of_bus.stays one pace group)).stream.wanted) none_asks;
           some_bits = subst (λ (f : FlowFrames). 1 ≤ f.stream.bits) all_same some;
           single = subst (λ (f : FlowFrames). f.stream.frames ≡ 1) (sym here_placed) paces.1;
           low = subst (λ (f : FlowFrames). f.least_ident ≤ group_ident (λ u. (unit_at
@@ -225,11 +230,13 @@ module _ (timing : Timing) (f : LoneFlow) (some : 1 ≤ f.width) (clock : IsTrue
       jitter_at_most = let at_once = (pace own).at_once in omega (arith, at_once);
     };
     sent_on = λ p in_p is sent. (suits.inside, suits.some_bits, let one = suits.single in omega (arith, one));
-    spaced = λ p q in_p in_q differ is_p is_q own source turn is_spaced. steps p q f.width ((streams_of timing all).stream f.flow).period (pace own).period differ;
+    spaced = λ p q in_p in_q differ is_p is_q own source turn is_spaced. steps p q f.width ((streams_of timing all).stream f.flow).period
+        (pace own).period differ;
     frames = λ other bits among at. lone_keeps other;
   }
 
-pub none_kept : (v : Vehicle) (delays : Delays) (b : ℕ) (timing : Timing) (ends : ℕ) (all : List (Option FlowFrames)) (flows : ℕ → Bool) (f : LoneFlow) → f.count ≡ 0
+pub none_kept : (v : Vehicle) (delays : Delays) (b : ℕ) (timing : Timing) (ends : ℕ) (all : List (Option FlowFrames)) (flows : ℕ → Bool) (f : LoneFlow)
+    → f.count ≡ 0
     → 1 ≤ f.width → IsTrueTime timing (λ t. f.unit * t) → IsOtherwiseKept v delays b timing ends all flows (bus_with f)
 none_kept v delays b timing ends all flows f none some clock = record {
   clock = clock;

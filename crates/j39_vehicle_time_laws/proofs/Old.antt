@@ -15,7 +15,8 @@ use Rattle.j39_vehicle_findings.specs.declared.point.FlowAt.{FlowAt}
 use Rattle.j39_vehicle_findings.specs.declared.point.Point.{Point}
 use Rattle.j39_gateways.specs.Gateways.{HasBegun, end_time, queue_time}
 use Rattle.j39_vehicle_times.specs.declared.bus_delays.Delays.{Delays}
-use Rattle.j39_vehicle_times.specs.Times.{age_with, behind_at, behind_by, direct_feeder, forward_at, first_input_at, old_behind, old_by, interval, interval_us, sum_known, timing_on}
+use Rattle.j39_vehicle_times.specs.Times.{age_with, behind_at, behind_by, direct_feeder, forward_at, first_input_at, old_behind, old_by, interval, interval_us}
+use Rattle.j39_vehicle_times.specs.Times.{sum_known, timing_on}
 use Rattle.j39_vehicle_times.specs.Times.{within_of}
 use Rattle.j39_vehicle_times.specs.BusDelays.{AreDelays}
 use Rattle.j39_vehicle_times.proofs.DecidingTimes.{and_then_some, map_some}
@@ -124,40 +125,49 @@ trans3 a b c d one two three = omega arith
 into_reach : (from old pause before within m : ℕ) → from + of_us (old + (pause + before) + within) ≤ m → from ≤ m - of_us (before + within)
 into_reach from old pause before within m late = omega arith
 
-within_reach : (from old pause by before within m : ℕ) → from + of_us (old + (pause + before) + within) ≤ m → m ≤ by → m - of_us (before + within) + of_us before ≤ by
+within_reach : (from old pause by before within m : ℕ) → from + of_us (old + (pause + before) + within) ≤ m → m ≤ by
+    → m - of_us (before + within) + of_us before ≤ by
 within_reach from old pause by before within m late early = omega arith
 
-begun_reach : (from old pause by before within m r : ℕ) → from + of_us (old + (pause + before) + within) ≤ m → m ≤ by → r ≤ m - of_us (before + within) → r + of_us before ≤ by
+begun_reach : (from old pause by before within m r : ℕ) → from + of_us (old + (pause + before) + within) ≤ m → m ≤ by → r ≤ m - of_us (before + within)
+    → r + of_us before ≤ by
 begun_reach from old pause by before within m r late early order = omega arith
 
-had_ended : (from old pause before within m r end : ℕ) → from + of_us (old + (pause + before) + within) ≤ m → r ≤ m - of_us (before + within) → end ≤ r + of_us before
+had_ended : (from old pause before within m r end : ℕ) → from + of_us (old + (pause + before) + within) ≤ m → r ≤ m - of_us (before + within)
+    → end ≤ r + of_us before
     → end + of_us within ≤ m
 had_ended from old pause before within m r end late early timely = omega arith
 
-not_too_old : (from old pause before within m r end : ℕ) → from + of_us (old + (pause + before) + within) ≤ m → m - of_us (before + within) < r + of_us pause → r < end
+not_too_old : (from old pause before within m r end : ℕ) → from + of_us (old + (pause + before) + within) ≤ m → m - of_us (before + within) < r + of_us pause
+    → r < end
     → m < end + of_us (pause + (before + within))
 not_too_old from old pause before within m r end late near later = omega arith
 
-still_late : (from old pause before within m r c : ℕ) → from + of_us (old + (pause + before) + within) ≤ m → m - of_us (before + within) < r + of_us pause → r ≤ c
+still_late : (from old pause before within m r c : ℕ) → from + of_us (old + (pause + before) + within) ≤ m → m - of_us (before + within) < r + of_us pause
+    → r ≤ c
     → from + of_us old ≤ c
 still_late from old pause before within m r c late near order = omega arith
 
-old_there : (from old pause before within m r c time : ℕ) → from + of_us (old + (pause + before) + within) ≤ m → m - of_us (before + within) < r + of_us pause → r ≤ c
+old_there : (from old pause before within m r c time : ℕ) → from + of_us (old + (pause + before) + within) ≤ m → m - of_us (before + within) < r + of_us pause
+    → r ≤ c
     → c ≤ time + of_us old → m ≤ time + of_us (old + (pause + before) + within)
 old_there from old pause before within m r c time late near order so = omega arith
 
 -- ---- values
 
-module _ (v : Vehicle) (delays : Delays) (none : AreFindings v []) (stated : AreDelays v delays) (seen : SeenBuses) (by : ℕ) (is : IsSeenVehicle v delays seen by)
+module _ (v : Vehicle) (delays : Delays) (none : AreFindings v []) (stated : AreDelays v delays) (seen : SeenBuses) (by : ℕ)
+    (is : IsSeenVehicle v delays seen by)
     (start : Point) (has : HasWay v is.scope start) (from : ℕ) (pauses : KeepPauses v seen start from by) where
   -- each message that has ended says what was so no more than `old` before its release, where this is so much behind the time from which on pauses
   -- are kept, and brings it from its origin
   abbrev pub IsOldAtMost : Point → ℕ → Type 0
   IsOldAtMost p old = (q : ℕ) → HasBegun (frames_at v seen p.at) q → end_time (frames_at v seen p.at) q ≤ by → from + of_us old ≤ (seen p.at.bus).release q
-      → (time : ℕ) × ((seen p.at.bus).born q p.signal ≡ Some time) × ((seen p.at.bus).release q ≤ time + of_us old) × (time ≤ end_time (frames_at v seen p.at) q)
+      → (time : ℕ) × ((seen p.at.bus).born q p.signal ≡ Some time) × ((seen p.at.bus).release q ≤ time + of_us old)
+      × (time ≤ end_time (frames_at v seen p.at) q)
       × IsBroughtFrom v seen p q time
 
-  at_origin : (p : Point) (old : ℕ) → IsOnTheWay v start p → next_forward v p ≡ None → old ≡ 0 → (k time : ℕ) → behind_by v delays k p.at ≡ Some time → IsOldAtMost p old
+  at_origin : (p : Point) (old : ℕ) → IsOnTheWay v start p → next_forward v p ≡ None → old ≡ 0 → (k time : ℕ) → behind_by v delays k p.at ≡ Some time
+      → IsOldAtMost p old
   at_origin p old way last zero_old k time behind_p q its ended late =
       let (born, says, so, written) = is.origins p (has p way) last q its.0 in
       let till = queued_till_end v delays seen by is p.at time (is_behind v delays stated seen by is k p.at (has p way) time behind_p) q its.0 in (
@@ -169,7 +179,8 @@ module _ (v : Vehicle) (delays : Delays) (none : AreFindings v []) (stated : Are
       )
 
   -- by a direct forward
-  directly : (p x : Point) (n : ℕ) (forward : Forward) (old : ℕ) → IsOnTheWay v start p → next_forward v p ≡ Some n → goes_on v p n ≡ Some x → forward_at v n ≡ Some forward
+  directly : (p x : Point) (n : ℕ) (forward : Forward) (old : ℕ) → IsOnTheWay v start p → next_forward v p ≡ Some n → goes_on v p n ≡ Some x
+      → forward_at v n ≡ Some forward
       → is_direct forward ≡ true → (steps time : ℕ) → behind_by v delays steps p.at ≡ Some time
       → ((k before : ℕ) → behind_by v delays k x.at ≡ Some before → IsOldAtMost x old) → IsOldAtMost p old
   directly p x n forward old way next on its direct steps time known input = go (direct_feeder v p.at) refl steps known
@@ -182,7 +193,8 @@ module _ (v : Vehicle) (delays : Delays) (none : AreFindings v []) (stated : Are
           let too = source_among v delays stated seen by is p.at (has p way) feeder fed.source fed.own_time feeds_it fed.source_is fed.own_is in
           let behind_x = is_behind v delays stated seen by is steps fed.source too fed.before fed.before_is in
           let behind_p = is_behind v delays stated seen by is (suc steps) p.at (has p way) time known in
-          let (place, found, sent_there) = sends_directly v delays stated seen by is p.at (has p way) feeder fed.source fed.within fed.before behind_p.own_time feeds_it
+          let (place, found, sent_there) = sends_directly v delays stated seen by is p.at
+          (has p way) feeder fed.source fed.within fed.before behind_p.own_time feeds_it
           fed.source_is
           fed.promised behind_p.one behind_x in
           let same : n ≡ place = one_feeder v none p n place forward feeder next its direct found in
@@ -216,14 +228,16 @@ module _ (v : Vehicle) (delays : Delays) (none : AreFindings v []) (stated : Are
           )
 
   -- by one that has its own releases
-  at_its_beat : (p x : Point) (n : ℕ) (forward : Forward) (old pause before within : ℕ) → IsOnTheWay v start p → IsOnTheWay v start x → next_forward v p ≡ Some n
+  at_its_beat : (p x : Point) (n : ℕ) (forward : Forward) (old pause before within : ℕ) → IsOnTheWay v start p → IsOnTheWay v start x
+      → next_forward v p ≡ Some n
       → goes_on v p n ≡ Some x
       → forward_at v n ≡ Some forward → is_direct forward ≡ false → interval_us v x.at ≡ Some pause → behind_at v delays x.at ≡ Some before
       → within_of forward ≡ Some within
       → (steps time : ℕ) → behind_by v delays steps p.at ≡ Some time → IsOldAtMost x old → IsOldAtMost p (old + (pause + before) + within)
   at_its_beat p x n forward old pause before within here way next on its periodic pauses_x behind_x promised steps time known input =
       let sent = is.prompt.periodic n forward x.at p.at within pause before
-      (record { its = its; output = next_feeds v p n forward next its; input = goes_on_input v p x n forward its on; promised = promised }) periodic (has p here) pauses_x
+      (record { its = its; output = next_feeds v p n forward next its; input = goes_on_input v p x n forward its on; promised = promised }) periodic
+      (has p here) pauses_x
       behind_x in
       let of_x = is_behind v delays stated seen by is (length v.forwards.items) x.at (has x way) before behind_x in
       let of_p = is_behind v delays stated seen by is steps p.at (has p here) time known in

@@ -1,5 +1,6 @@
 -- One flow of which a delay is reported, on its own bus.
-use Rattle.std.proofs.Common.{◌≡◌, ◌≢◌, ℕ, ◌+◌, ◌*◌, ◌-◌, ◌<◌, ◌≤◌, ◌⊎◌, ◌==◌, Bool, true, false, List, [], ◌++◌, if◌then◌else◌, Option, Some, refl, sym, ap, ◌∙◌}
+use Rattle.std.proofs.Common.{◌≡◌, ◌≢◌, ℕ, ◌+◌, ◌*◌, ◌-◌, ◌<◌, ◌≤◌, ◌⊎◌, ◌==◌, Bool, true, false, List, [], ◌++◌, if◌then◌else◌, Option, Some, refl, sym, ap}
+use Rattle.std.proofs.Common.{◌∙◌}
 use Rattle.std.proofs.Common.{subst, arith}
 use Rattle.std.proofs.lemmas.Bool.{eqb-true, leb-true}
 use Rattle.std.proofs.lemmas.Option.{same_Some, slice_get-map}
@@ -136,13 +137,15 @@ short_frames timing units stays flow pace group k frames is = go (is_always_shor
     go false at = absurd (long_short timing units stays flow pace group k flow.to frames at)
 
 pub stream_of : (timing : Timing) (plan : Plan) (stays : UnitPlan → Bool) (place : ℕ) (flow : FlowPlan) → slice_get plan.flows.items place ≡ Some flow
-    → askers_of plan.requests.items flow ≡ 0 → (load : FlowLoad) → slice_get (loads_of timing plan stays) place ≡ Some (Some load) → (frames : FlowFrames) → load.messages ≡ Short frames
+    → askers_of plan.requests.items flow ≡ 0 → (load : FlowLoad) → slice_get (loads_of timing plan stays) place ≡ Some (Some load) → (frames : FlowFrames)
+    → load.messages ≡ Short frames
     → HasStream timing flow frames load.limit
 stream_of timing plan stays place flow its none_asks load at frames short =
     let stated : load_of_flow timing plan stays flow ≡ Some load =
     same_Some _ _ (sym (slice_get-map (load_of_flow timing plan stays) plan.flows.items place ∙ ap (option_map (load_of_flow timing plan stays)) its) ∙ at) in
     let (pace, paced, rest) = and_then_some _ flow.pace load stated in
-    let (group, of, made) = map_some (asked_load timing plan.requests.items plan.units.items stays flow pace) (slice_get plan.groups.items flow.group) load rest in
+    let (group, of, made) = map_some (asked_load timing plan.requests.items plan.units.items stays flow pace)
+    (slice_get plan.groups.items flow.group) load rest in
     let is_short : messages_for timing pace (askers_of plan.requests.items flow) (messages_of timing plan.units.items stays flow pace group) ≡ Short frames =
     ap (λ (l : FlowLoad). l.messages) made ∙ short in
     let same : frames_for timing pace (askers_of plan.requests.items flow) (single_frames timing plan.units.items stays flow pace group) ≡ frames =
@@ -176,7 +179,8 @@ group_of timing plan stays place flow its load at frames short =
     let stated : load_of_flow timing plan stays flow ≡ Some load =
     same_Some _ _ (sym (slice_get-map (load_of_flow timing plan stays) plan.flows.items place ∙ ap (option_map (load_of_flow timing plan stays)) its) ∙ at) in
     let (pace, paced, rest) = and_then_some _ flow.pace load stated in
-    let (group, of, made) = map_some (asked_load timing plan.requests.items plan.units.items stays flow pace) (slice_get plan.groups.items flow.group) load rest in
+    let (group, of, made) = map_some (asked_load timing plan.requests.items plan.units.items stays flow pace)
+    (slice_get plan.groups.items flow.group) load rest in
     let is_short : messages_for timing pace (askers_of plan.requests.items flow) (messages_of timing plan.units.items stays flow pace group) ≡ Short frames =
     ap (λ (l : FlowLoad). l.messages) made ∙ short in
     (group, of, leb-true group.most 8 (short_is_short timing plan.units.items stays flow pace group (askers_of plan.requests.items flow) frames is_short))
@@ -281,7 +285,8 @@ module _ (v : Vehicle) (delays : Delays) (stated : AreDelays v delays) (at : Flo
       keeps_bus : IsKeptBus has.timing asked (delays_on delays at.bus) (scope_on scope at.bus) (seen at.bus)
       keeps_bus = kept at.bus has.timing of_bus inside
 
-      frames_here : AreFramesInAnyOrder has.timing asked.unplanned_end (frames_asked asked) (seen at.bus).schedule (seen at.bus).controllers (seen at.bus).planned
+      frames_here : AreFramesInAnyOrder has.timing asked.unplanned_end (frames_asked asked) (seen at.bus).schedule (seen at.bus).controllers
+          (seen at.bus).planned
           (seen at.bus).of at.flow
       frames_here = keeps_bus.frames at.flow has.bits among delay_here
 

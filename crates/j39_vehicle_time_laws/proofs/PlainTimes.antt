@@ -1,5 +1,6 @@
 -- In the words of plans: what nothing found in times leaves of direct forwards.
-use Rattle.std.proofs.Common.{◌≡◌, ℕ, zero, suc, ◌+◌, ◌-◌, ◌*◌, ◌⊎◌, [], length, false, if◌then◌else◌, Option, Some, None, refl, sym, ap, ◌∙◌, subst, inl, inr, arith}
+use Rattle.std.proofs.Common.{◌≡◌, ℕ, zero, suc, ◌+◌, ◌-◌, ◌*◌, ◌⊎◌, [], length, false, if◌then◌else◌, Option, Some, None, refl, sym, ap, ◌∙◌, subst, inl, inr}
+use Rattle.std.proofs.Common.{arith}
 use Rattle.std.proofs.lemmas.Bool.{cases_Bool, cases_lt}
 use Rattle.std.proofs.lemmas.Option.{none-some, same_Some}
 use Rattle.std.specs.Int.{div_ceil}
@@ -11,7 +12,8 @@ use Rattle.j39_load.specs.Clocks.{bit_time, million}
 use Rattle.j39_vehicle.specs.declared.vehicle.Vehicle.{Vehicle}
 use Rattle.j39_vehicle.specs.declared.vehicle.forward.Forward.{Forward}
 use Rattle.j39_vehicle_times.specs.TimeFindings.{AreTimeFindings, IsDirectBetween, IsKnownWithin, IsUnlimited, TimeHolds}
-use Rattle.j39_vehicle_times.specs.Times.{askers_on, behind_at, direct_feeder, first_input_at, flow_at, interval, interval_by, interval_us, latest_ms, old, pause_on, queued_of, sum_known, timing_on}
+use Rattle.j39_vehicle_times.specs.Times.{askers_on, behind_at, direct_feeder, first_input_at, flow_at, interval, interval_by, interval_us, latest_ms, old}
+use Rattle.j39_vehicle_times.specs.Times.{pause_on, queued_of, sum_known, timing_on}
 use Rattle.j39_vehicle_times.specs.Times.{unasked_at, us_of_ms}
 use Rattle.j39_vehicle_findings.specs.declared.point.FlowAt.{FlowAt}
 use Rattle.j39_vehicle_times.specs.declared.bus_delays.Delays.{Delays}
@@ -78,7 +80,8 @@ comes_again : (v : Vehicle) (steps : ℕ) (at : FlowAt) (pause : ℕ) → interv
     → (flow : FlowPlan) × (unasked_at v at ≡ Some flow)
 unfolding interval_by
 comes_again v zero at pause is =
-    let (flow, its, more) = and_then_some (λ flow. option_map_or (λ n. None) (direct_feeder v at) (pause_on v at flow)) (unasked_at v at) pause is in (flow, its)
+    let (flow, its, more) = and_then_some (λ flow. option_map_or (λ n. None) (direct_feeder v at) (pause_on v at flow)) (unasked_at v at) pause is
+    in (flow, its)
 comes_again v (suc steps) at pause is =
     let (flow, its, more) =
     and_then_some (λ flow. option_map_or (λ n. option_and_then (interval_by v steps) (first_input_at v n)) (direct_feeder v at) (pause_on v at flow))

@@ -49,7 +49,8 @@ use Rattle.j39_vehicle_time_laws.proofs.LoneSteps.{at_step, behind_step, few_ste
 use Rattle.j39_vehicle_time_laws.proofs.LoneWay.{from_x, own_on_way, two_points, unasked_flow}
 
 module _ (v : Vehicle) (delays : Delays) (stated : AreDelays v delays) (n : ℕ) (forward : Forward) (x y : FlowAt) (within by : ℕ)
-    (lone : IsLoneForward v delays n forward x y within) (paced : IsPacedFlow v x) (before bytes : List ℕ) (carries : CarriesValues v forward before bytes) where
+    (lone : IsLoneForward v delays n forward x y within) (paced : IsPacedFlow v x) (before bytes : List ℕ)
+    (carries : CarriesValues v forward before bytes) where
   stated_at : (at : FlowAt) (bits : ℕ) → delay_at delays at ≡ Some bits → slice_get (delays_on delays at.bus) at.flow ≡ Some (Some (Within bits))
   stated_at at bits delayed =
       let (d, here, within) = and_then_some bits_within (slice_get (delays_on delays at.bus) at.flow) bits delayed in
@@ -210,14 +211,16 @@ module _ (v : Vehicle) (delays : Delays) (stated : AreDelays v delays) (n : ℕ)
     sum = refl;
   }
 
-  period_x : ((streams_of lone.timed_x.0 (frames_asked (asked_on (known_bus v delays stated x.bus lone.timed_x.0 lone.timed_x.1)))).stream x.flow).period ≤ width_x
+  period_x : ((streams_of lone.timed_x.0 (frames_asked (asked_on (known_bus v delays stated x.bus lone.timed_x.0 lone.timed_x.1)))).stream x.flow).period
+      ≤ width_x
   unfolding has_own
   period_x =
       let stream = its_stream v delays stated x (own_of lone.timed_x.0 paced.flow lone.stated_x.0) has_own
       (none_ask v x paced.flow paced.its are_unasked.1) in
       let same : stream.period ≡ paced.ms = same_Some _ _ (sym stream.period_is ∙ paced.period) in
       let few = fewer_bits lone.timed_x.0 paced.ms in
-      let bits : (bound v delays stated x (own_of lone.timed_x.0 paced.flow lone.stated_x.0) has_own).frames.stream.period ≡ bits_at_least lone.timed_x.0 paced.ms =
+      let bits : (bound v delays stated x (own_of lone.timed_x.0 paced.flow lone.stated_x.0) has_own).frames.stream.period
+      ≡ bits_at_least lone.timed_x.0 paced.ms =
       stream.apart ∙ ap (bits_at_least lone.timed_x.0) same in
       subst (λ (f : FlowFrames). f.stream.period ≤ width_x) (sym (placed v delays stated x (own_of lone.timed_x.0 paced.flow lone.stated_x.0) has_own))
       (omega (arith, few, bits))
@@ -239,8 +242,10 @@ module _ (v : Vehicle) (delays : Delays) (stated : AreDelays v delays) (n : ℕ)
   kept b timing of_bus inside = elim (cases_Bool (eqb b x.bus)) [
     | inl is ↦
         let same : b ≡ x.bus = eqb-true b x.bus is in
-        subst (λ (s : SeenBus). IsOtherwiseKept v delays b timing (frames_asked (asked_on of_bus)) (scope_on (whole_vehicle v) b) s) (sym (seen_x x.bus y.bus bus_x bus_y bus_none b is))
-        (subst (λ (c : ℕ). (other : IsKnownBus v delays c timing) → IsOtherwiseKept v delays c timing (frames_asked (asked_on other)) (scope_on (whole_vehicle v) c) bus_x) (sym same)
+        subst (λ (s : SeenBus). IsOtherwiseKept v delays b timing (frames_asked (asked_on of_bus)) (scope_on (whole_vehicle v) b) s)
+        (sym (seen_x x.bus y.bus bus_x bus_y bus_none b is))
+        (subst (λ (c : ℕ). (other : IsKnownBus v delays c timing) → IsOtherwiseKept v delays c timing (frames_asked (asked_on other))
+        (scope_on (whole_vehicle v) c) bus_x) (sym same)
         (λ other. lone_kept timing lone_x some_x (unit_true v x.bus timing (timed_of x.bus timing other)) (frames_asked (asked_on other))
         (subst (λ (tr : Traffic). Fits tr x.flow ident_x)
         (one_traffic v delays x.bus lone.timed_x.0 timing (known_bus v delays stated x.bus lone.timed_x.0 lone.timed_x.1) other) fits_of_x)
@@ -248,14 +253,17 @@ module _ (v : Vehicle) (delays : Delays) (stated : AreDelays v delays) (n : ℕ)
     | inr isnt ↦ elim (cases_Bool (eqb b y.bus)) [
       | inl is ↦
           let same : b ≡ y.bus = eqb-true b y.bus is in
-          subst (λ (s : SeenBus). IsOtherwiseKept v delays b timing (frames_asked (asked_on of_bus)) (scope_on (whole_vehicle v) b) s) (sym (seen_y x.bus y.bus bus_x bus_y bus_none b isnt is))
-          (subst (λ (c : ℕ). (other : IsKnownBus v delays c timing) → IsOtherwiseKept v delays c timing (frames_asked (asked_on other)) (scope_on (whole_vehicle v) c) bus_y) (sym same)
+          subst (λ (s : SeenBus). IsOtherwiseKept v delays b timing (frames_asked (asked_on of_bus)) (scope_on (whole_vehicle v) b) s)
+          (sym (seen_y x.bus y.bus bus_x bus_y bus_none b isnt is))
+          (subst (λ (c : ℕ). (other : IsKnownBus v delays c timing) → IsOtherwiseKept v delays c timing (frames_asked (asked_on other))
+          (scope_on (whole_vehicle v) c) bus_y) (sym same)
           (λ other. lone_kept timing lone_y some_y (unit_true v y.bus timing (timed_of y.bus timing other)) (frames_asked (asked_on other))
           (subst (λ (tr : Traffic). Fits tr y.flow ident_y)
           (one_traffic v delays y.bus lone.timed_y.0 timing (known_bus v delays stated y.bus lone.timed_y.0 lone.timed_y.1) other) fits_of_y)
           (lone.in_order y.bus timing other) v delays y.bus (scope_on (whole_vehicle v) y.bus) (λ own. absurd (own is_sent_on))) of_bus)
       | inr neither ↦
-          subst (λ (s : SeenBus). IsOtherwiseKept v delays b timing (frames_asked (asked_on of_bus)) (scope_on (whole_vehicle v) b) s) (sym (seen_other x.bus y.bus bus_x bus_y bus_none b isnt neither))
+          subst (λ (s : SeenBus). IsOtherwiseKept v delays b timing (frames_asked (asked_on of_bus)) (scope_on (whole_vehicle v) b) s)
+          (sym (seen_other x.bus y.bus bus_x bus_y bus_none b isnt neither))
           (none_kept v delays b timing (frames_asked (asked_on of_bus)) (scope_on (whole_vehicle v) b) (lone_none b) refl (omega arith)
           (unit_true v b timing (timed_of b timing of_bus)))
     ]
@@ -433,7 +441,8 @@ module _ (v : Vehicle) (delays : Delays) (stated : AreDelays v delays) (n : ℕ)
     };
     kept = kept;
     until = λ b timing inside timed.
-        each_bus x.bus y.bus bus_x bus_y bus_none b (λ s. by ≤ s.time s.schedule.now) (times_more (unit_at v x.bus) width_x (unit_some v x.bus)) (times_more (unit_at v y.bus) width_y (unit_some v y.bus))
+        each_bus x.bus y.bus bus_x bus_y bus_none b (λ s. by ≤ s.time s.schedule.now) (times_more (unit_at v x.bus) width_x (unit_some v x.bus))
+        (times_more (unit_at v y.bus) width_y (unit_some v y.bus))
         (times_by (unit_at v b) by (unit_some v b));
     prompt = prompt;
     own_releases = λ at inside own q its. released at.bus q its.0;
@@ -449,7 +458,8 @@ module _ (v : Vehicle) (delays : Delays) (stated : AreDelays v delays) (n : ℕ)
   -- a release comes at each step
   keeps_pause : KeepsItsPause v seen x 0 by
   keeps_pause pause known t from to =
-      let (flow, unasked, rest) = and_then_some (λ (f : FlowPlan). option_and_then (λ (timing : Timing). option_map (λ (ms : ℕ). ms * longest_million timing) f.pause)
+      let (flow, unasked, rest) = and_then_some (λ (f : FlowPlan). option_and_then
+      (λ (timing : Timing). option_map (λ (ms : ℕ). ms * longest_million timing) f.pause)
       (timing_on v.buses.items x.bus)) (unasked_at v x) pause known in
       let (timing, timed, more) = and_then_some (λ (timing : Timing). option_map (λ (ms : ℕ). ms * longest_million timing) flow.pause)
       (timing_on v.buses.items x.bus) pause rest in
@@ -490,7 +500,8 @@ module _ (v : Vehicle) (delays : Delays) (stated : AreDelays v delays) (n : ℕ)
               let one : other ≡ forward = same_Some _ _ (sym its ∙ (ap (forward_at v) same ∙ lone.sends.its)) in
               let far : r ≡ traced.from = same_Some _ _ (sym on ∙ (ap (λ (z : Point). goes_on v z m) here ∙ (ap (goes_on v p) same ∙ traced.on))) in
               let of_x : (seen r.at.bus).bytes carried ≡ before =
-              ap (λ (z : Point). (seen z.at.bus).bytes carried) far ∙ (ap (λ (f : FlowAt). (seen f.bus).bytes carried) (from_x v delays n forward x y within lone p traced)
+              ap (λ (z : Point). (seen z.at.bus).bytes carried) far ∙ (ap (λ (f : FlowAt). (seen f.bus).bytes carried)
+              (from_x v delays n forward x y within lone p traced)
               ∙ ap (λ (s : SeenBus). s.bytes carried) (at_x x.bus y.bus bus_x bus_y bus_none)) in
               let of_y : (seen q.at.bus).bytes frame ≡ bytes =
               ap (λ (z : Point). (seen z.at.bus).bytes frame) here ∙ (ap (λ (f : FlowAt). (seen f.bus).bytes frame) traced.of

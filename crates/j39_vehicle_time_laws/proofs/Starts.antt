@@ -34,7 +34,8 @@ use Rattle.j39_timing.proofs.Buffering.{ordered_begun}
 -- ---- frames of units that keep order
 
 module _ (timing : Timing) (ends : ℕ) (asked : List (Option FlowFrames)) (paced : All HasPeriod (asked ++ damage_frames timing))
-    (sent : All (λ (f : Option FlowFrames). IfSome f IsSent) asked) (buffering : Buffering) (buffering_delays : IsBuffering timing ends asked buffering) (i : ℕ) (frames : FlowFrames)
+    (sent : All (λ (f : Option FlowFrames). IfSome f IsSent) asked) (buffering : Buffering) (buffering_delays : IsBuffering timing ends asked buffering) (i : ℕ)
+    (frames : FlowFrames)
     (at : get_or asked i None ≡ Some frames) (ordered : keep_order frames ≡ true) (bounded : may_be_passed buffering frames.greatest_ident ≡ false) (wait : ℕ)
     (enough : need_of timing buffering.frames i frames wait ≤ wait) (s : Schedule) (controllers : Controllers) (planned : ℕ → Bool) (of : Origins)
     (legal : IsLegalInAnyOrder s controllers) (known : AreFramesInAnyOrder timing ends asked s controllers planned of i) where
@@ -46,7 +47,8 @@ module _ (timing : Timing) (ends : ℕ) (asked : List (Option FlowFrames)) (pace
       ordered_begun s controllers legal (traffic_of (asked ++ damage_frames timing)) (others_of timing) (longest_frame 8) planned of i wait known.known
       (positive timing ends asked paced sent)
       (own_ordered timing ends asked paced sent buffering buffering_delays i frames at ordered bounded wait enough s controllers planned of legal known)
-      (buffered_for buffering.waits) (have timing ends asked paced sent buffering buffering_delays i frames at ordered bounded wait enough s controllers planned of legal known)
+      (buffered_for buffering.waits)
+      (have timing ends asked paced sent buffering buffering_delays i frames at ordered bounded wait enough s controllers planned of legal known)
       (demand_fits timing ends asked paced sent buffering buffering_delays i frames at ordered bounded wait enough single.1)
       (subst (λ (own : FlowFrames). IsSingle own.stream) (sym is_placed) single)
       (subst (λ (own : FlowFrames). delay_of own.stream wait ≤ own.stream.period) (sym is_placed) fits)

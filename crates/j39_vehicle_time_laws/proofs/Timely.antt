@@ -1,5 +1,6 @@
 -- Where no finding says that a direct forward is too often or too late, each flow that it feeds has room for it.
-use Rattle.std.proofs.Common.{◌≡◌, ℕ, zero, suc, ◌*◌, ◌<◌, ◌≤◌, Bool, true, false, cond, List, [], ◌∷◌, get_or, Option, Some, None, refl, sym, ap, ◌∙◌, subst, inl}
+use Rattle.std.proofs.Common.{◌≡◌, ℕ, zero, suc, ◌*◌, ◌<◌, ◌≤◌, Bool, true, false, cond, List, [], ◌∷◌, get_or, Option, Some, None, refl, sym, ap, ◌∙◌, subst}
+use Rattle.std.proofs.Common.{inl}
 use Rattle.std.proofs.Common.{inr, arith}
 use Rattle.std.proofs.lemmas.Bool.{cases_lt, lt-ltb, true≢false}
 use Rattle.std.proofs.lemmas.List.Quantifiers.{position-Some}
@@ -25,7 +26,8 @@ use Rattle.j39_vehicle_findings.specs.declared.finding.VehicleFinding.TheVariant
 use Rattle.j39_vehicle_findings.specs.declared.point.FlowAt.{FlowAt}
 use Rattle.j39_vehicle_findings.proofs.Deciding.{Decides-has_many_outputs, Decides-is_direct, Decides-is_input}
 use Rattle.j39_vehicle_times.specs.TimeFindings.{AreTimeFindings, IsDirectBetween, IsUnlimited, first_output, period_ms}
-use Rattle.j39_vehicle_times.specs.Times.{askers_on, bits_within, delay_at, direct_feeder, flow_at, first_input_at, latest_ms, queued_of, interval, longest_on, shortest_on, timing_on, us_of_ms}
+use Rattle.j39_vehicle_times.specs.Times.{askers_on, bits_within, delay_at, direct_feeder, flow_at, first_input_at, latest_ms, queued_of, interval, longest_on}
+use Rattle.j39_vehicle_times.specs.Times.{shortest_on, timing_on, us_of_ms}
 use Rattle.j39_vehicle_times.specs.declared.bus_delays.Delays.{Delays}
 use Rattle.j39_vehicle_times.specs.declared.ends.Ends.{Ends}
 use Rattle.j39_vehicle_times.specs.declared.finding.TimeFinding.TheVariants.{TooLate, TooOften, TooRare}
@@ -179,7 +181,8 @@ module _ (v : Vehicle) (delays : Delays) (none : AreFindings v []) (stated : Are
       let has : HasOwn v delays at (Rattle.j39_vehicle_times.specs.Times.own_of timing sends.flow bits) =
       record { timing = timing; timed = time; flow = sends.flow; its = sends.its; bits = bits; delayed = delayed; sum = refl } in
       let (short, of_flow, few) = short_group v delays stated at (Rattle.j39_vehicle_times.specs.Times.own_of timing sends.flow bits) has in
-      let its_bus : (known_bus v delays stated at.bus timing time).bus ≡ bus = same_Some _ _ (sym (known_bus v delays stated at.bus timing time).its ∙ bus_is) in
+      let its_bus : (known_bus v delays stated at.bus timing time).bus ≡ bus = same_Some _ _
+      (sym (known_bus v delays stated at.bus timing time).its ∙ bus_is) in
       let here : slice_get bus.plan.groups.items sends.flow.group ≡ Some group =
       subst (λ (o : Option BusPlan). slice_get (option_map_or (λ (x : BusPlan). x.plan.groups.items) o []) sends.flow.group ≡ Some group) bus_is
       (subst (λ (b : ℕ). slice_get (groups_on v.buses.items b) sends.flow.group ≡ Some group) sends.bus its) in

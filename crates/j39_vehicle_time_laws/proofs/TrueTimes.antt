@@ -121,11 +121,13 @@ agreed_time timing = record {
   at_least = λ a b below.
       let less = more_by timing.bitrate (shortest_million timing) (b - a) million (mul-le-mul_left (b - a) (slower timing)) in
       let at : a + (b - a) ≡ b = omega arith in
-      subst (λ (c : ℕ). of_us (bit_time timing.bitrate) * a + (b - a) * bit_time timing.bitrate * shortest_million timing ≤ of_us (bit_time timing.bitrate) * c) at
+      subst (λ (c : ℕ). of_us (bit_time timing.bitrate) * a + (b - a) * bit_time timing.bitrate * shortest_million timing ≤ of_us
+      (bit_time timing.bitrate) * c) at
       (omega (arith, less));
   at_most = λ a b below.
       let more = less_by timing.bitrate (longest_million timing) (b - a) million (mul-le-mul_left (b - a) (faster timing)) in
       let at : a + (b - a) ≡ b = omega arith in
-      subst (λ (c : ℕ). of_us (bit_time timing.bitrate) * c ≤ of_us (bit_time timing.bitrate) * a + (b - a) * bit_time timing.bitrate * longest_million timing) at
+      subst (λ (c : ℕ). of_us (bit_time timing.bitrate) * c ≤ of_us
+      (bit_time timing.bitrate) * a + (b - a) * bit_time timing.bitrate * longest_million timing) at
       (omega (arith, more));
 }

@@ -112,7 +112,8 @@ module _ (timing : Timing) (ends : ℕ) (all : List (Option FlowFrames)) (s : Sc
             (then_is_planned s planned by q both.0 ready, both.1);
         few_unplanned = λ p from to in_p is has before waits stretch.
             let (plain, early) = is_planned_then s planned by p is in
-            let most = kept.few_unplanned p from to in_p plain has (omega arith) waits (queue_group_before s planned of queue_group by (others_of timing).least from to stretch) in
+            let most = kept.few_unplanned p from to in_p plain has (omega arith) waits
+            (queue_group_before s planned of queue_group by (others_of timing).least from to stretch) in
             let less = fewer_unplanned s planned of queue_group by (others_of timing).least from to before in
             omega (arith, most, less);
       }
@@ -127,5 +128,6 @@ module _ (timing : Timing) (ends : ℕ) (all : List (Option FlowFrames)) (s : Sc
           let same = own p early in
           omega (arith, most, same);
       queue_groups =
-          λ j level goes kept is_level. queue_group_then (queue_group_of timing ends all (planned_at all j) level) (keeps.queue_groups j level goes kept is_level);
+          λ j level goes kept is_level. queue_group_then (queue_group_of timing ends all (planned_at all j) level)
+          (keeps.queue_groups j level goes kept is_level);
     }

@@ -19,7 +19,8 @@ use Rattle.j39_load.specs.ReadInTime.{AreWritten}
 use Rattle.j39_load.specs.SentFrames.{Announcing, Carrying, FrameSources, IsMsBefore, Single, goes_to}
 use Rattle.j39_load.specs.ValuesInTime.{KeepsPause}
 use Rattle.j39_load.proofs.KeepingApart.{few_ident}
-use Rattle.j39_load.proofs.KeepingPlanned.{a_period_apart, answer_nothing, keeps_all, keeps_queues, none_sent, of_one_source, planned_address, planned_controllers, planned_held}
+use Rattle.j39_load.proofs.KeepingPlanned.{a_period_apart, answer_nothing, keeps_all, keeps_queues, none_sent, of_one_source, planned_address}
+use Rattle.j39_load.proofs.KeepingPlanned.{planned_controllers, planned_held}
 use Rattle.j39_load.proofs.KeepingPlanned.{planned_single, slots_kept, steps_behind}
 use Rattle.j39_load.proofs.Milliseconds.{at_once, faster, some_fast}
 use Rattle.j39_load.proofs.Slots.{slots}

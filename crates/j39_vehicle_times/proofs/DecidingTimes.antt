@@ -26,9 +26,11 @@ use Rattle.j39_vehicle_findings.proofs.Deciding.{Decides-is_direct, it_is, need_
 use Rattle.j39_vehicle_times.specs.declared.bus_delays.Delays.{Delays}
 use Rattle.j39_vehicle_times.specs.declared.ends.Ends.{Ends}
 use Rattle.j39_vehicle_times.specs.declared.needs.NeedFlow.{NeedFlow}
-use Rattle.j39_vehicle_times.specs.TimeFindings.{ComesTooOften, IsDirectBetween, IsNearer, MayBeMore, IsNeedTooOld, IsTooLate, IsTooOften, IsTooRare, IsUnlimited, IsKnownWithin, IsYoungFlow}
+use Rattle.j39_vehicle_times.specs.TimeFindings.{ComesTooOften, IsDirectBetween, IsNearer, MayBeMore, IsNeedTooOld, IsTooLate, IsTooOften, IsTooRare}
+use Rattle.j39_vehicle_times.specs.TimeFindings.{IsUnlimited, IsKnownWithin, IsYoungFlow}
 use Rattle.j39_vehicle_times.specs.TimeFindings.{written_deadline, first_output, period_ms}
-use Rattle.j39_vehicle_times.specs.FoundTimes.{direct_ends, ends_of, flow_of_need, is_long, is_nearer, is_need_too_old, is_older, is_timed_bus, goes_to_all, is_too_late}
+use Rattle.j39_vehicle_times.specs.FoundTimes.{direct_ends, ends_of, flow_of_need, is_long, is_nearer, is_need_too_old, is_older, is_timed_bus, goes_to_all}
+use Rattle.j39_vehicle_times.specs.FoundTimes.{is_too_late}
 use Rattle.j39_vehicle_times.specs.FoundTimes.{is_too_often, is_too_rare, may_be_more, is_unlimited, is_known_within, need_flow_at, need_flows_at}
 use Rattle.j39_vehicle_times.specs.Times.{age, askers_on, flow_at, first_input_at, latest_ms, queued_of, interval, longest_on, shortest_on, timing_on, us_of_ms}
 use Rattle.j39_vehicle_times.proofs.Youngest.{IsLeast, youngest_among, youngest_least, youngest_some}

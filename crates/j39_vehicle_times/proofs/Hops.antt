@@ -11,7 +11,8 @@ use Rattle.j39_vehicle_findings.specs.declared.point.FlowAt.{FlowAt}
 use Rattle.j39_vehicle_findings.specs.declared.point.Point.{Point}
 use Rattle.j39_vehicle_findings.proofs.Tracing.{one_more}
 use Rattle.j39_vehicle_times.specs.declared.bus_delays.Delays.{Delays}
-use Rattle.j39_vehicle_times.specs.Times.{age_with, behind_at, behind_by, behind_release, direct_feeder, forward_at, first_input_at, old_behind, old_by, own, pause_on}
+use Rattle.j39_vehicle_times.specs.Times.{age_with, behind_at, behind_by, behind_release, direct_feeder, forward_at, first_input_at, old_behind, old_by, own}
+use Rattle.j39_vehicle_times.specs.Times.{pause_on}
 use Rattle.j39_vehicle_times.specs.Times.{queued_behind, interval_by, interval_us, sum_known, timing_on, unasked_at, within_of}
 use Rattle.j39_vehicle_times.specs.inside.Aging.{aged_by, aged_of, ends_here}
 use Rattle.j39_vehicle_times.proofs.Sums.{sum_more, sum_none, sum_swap, sum_swapped, sum_turned, sum_zero}
@@ -96,7 +97,8 @@ unfolding interval_by
 interval_unknown v zero at none =
     ap (λ o. option_and_then (λ f. option_map_or (λ n. None) (direct_feeder v at) (pause_on v at f)) o) none
 interval_unknown v (suc steps) at none =
-    ap (λ o. option_and_then (λ f. option_map_or (λ n. option_and_then (interval_by v steps) (first_input_at v n)) (direct_feeder v at) (pause_on v at f)) o) none
+    ap (λ o. option_and_then (λ f. option_map_or (λ n. option_and_then (interval_by v steps) (first_input_at v n)) (direct_feeder v at)
+    (pause_on v at f)) o) none
 
 interval_step : (v : Vehicle) (steps : ℕ) (at : FlowAt) (flow : FlowPlan) (n : Forward) → unasked_at v at ≡ Some flow → direct_feeder v at ≡ Some n
     → interval_by v (suc steps) at ≡ option_and_then (interval_by v steps) (first_input_at v n)
@@ -145,7 +147,8 @@ pub old_unknown : (v : Vehicle) (delays : Delays) (steps : ℕ) (p : Point) → 
 unfolding old_by
 old_unknown v delays zero p none = ap (λ o. option_and_then (λ (timing : Timing). option_map_or (λ n. None) (next_forward v p) (Some 0)) o) none
 old_unknown v delays (suc steps) p none = ap (λ o. option_and_then (λ (timing : Timing).
-    option_map_or (λ n. option_and_then (λ (q : Point). old_behind v delays n q.at (old_by v delays steps q)) (goes_on v p n)) (next_forward v p) (Some 0)) o) none
+    option_map_or (λ n. option_and_then (λ (q : Point). old_behind v delays n q.at (old_by v delays steps q)) (goes_on v p n)) (next_forward v p)
+    (Some 0)) o) none
 
 pub old_here : (v : Vehicle) (delays : Delays) (steps : ℕ) (p : Point) (t : Timing) → timing_on v.buses.items p.at.bus ≡ Some t → next_forward v p ≡ None
     → old_by v delays steps p ≡ Some 0
@@ -155,7 +158,8 @@ old_here v delays zero p t is none =
     ∙ ap (λ n. option_map_or (λ m. None) n (Some 0)) none
 old_here v delays (suc steps) p t is none =
     ap (λ o. option_and_then (λ (timing : Timing).
-    option_map_or (λ n. option_and_then (λ (q : Point). old_behind v delays n q.at (old_by v delays steps q)) (goes_on v p n)) (next_forward v p) (Some 0)) o) is
+    option_map_or (λ n. option_and_then (λ (q : Point). old_behind v delays n q.at (old_by v delays steps q)) (goes_on v p n)) (next_forward v p)
+    (Some 0)) o) is
     ∙ ap (λ k. option_map_or (λ n. option_and_then (λ (q : Point). old_behind v delays n q.at (old_by v delays steps q)) (goes_on v p n)) k (Some 0)) none
 
 -- where it isn't followed any more
@@ -180,7 +184,8 @@ old_step : (v : Vehicle) (delays : Delays) (steps : ℕ) (p : Point) (t : Timing
 unfolding old_by
 old_step v delays steps p t n is some =
     ap (λ o. option_and_then (λ (timing : Timing).
-    option_map_or (λ n. option_and_then (λ (q : Point). old_behind v delays n q.at (old_by v delays steps q)) (goes_on v p n)) (next_forward v p) (Some 0)) o) is
+    option_map_or (λ n. option_and_then (λ (q : Point). old_behind v delays n q.at (old_by v delays steps q)) (goes_on v p n)) (next_forward v p)
+    (Some 0)) o) is
     ∙ ap (λ k. option_map_or (λ n. option_and_then (λ (q : Point). old_behind v delays n q.at (old_by v delays steps q)) (goes_on v p n)) k (Some 0)) some
 
 -- a step to what the forward heard

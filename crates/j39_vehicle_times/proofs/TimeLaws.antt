@@ -10,8 +10,10 @@ use Rattle.j39_vehicle.specs.declared.vehicle.Vehicle.{Vehicle}
 use Rattle.j39_vehicle_times.specs.declared.bus_delays.Delays.{Delays}
 use Rattle.j39_vehicle_times.specs.declared.finding.TimeFinding.{TimeFinding}
 use Rattle.j39_vehicle_times.specs.declared.finding.TimeFinding.TheVariants.{TooOften, TooLate, TooRare, NeedTooOld}
-use Rattle.j39_vehicle_times.specs.TimeFindings.{AreTimeFindings, IsNeedTooOld, IsTooLate, IsTooOften, IsTooRare, TimeHolds, time_finding_number, time_finding_places}
-use Rattle.j39_vehicle_times.specs.FoundTimes.{forward_time_findings, is_need_too_old, is_too_late, is_too_often, is_too_rare, need_time_findings, time_findings}
+use Rattle.j39_vehicle_times.specs.TimeFindings.{AreTimeFindings, IsNeedTooOld, IsTooLate, IsTooOften, IsTooRare, TimeHolds, time_finding_number}
+use Rattle.j39_vehicle_times.specs.TimeFindings.{time_finding_places}
+use Rattle.j39_vehicle_times.specs.FoundTimes.{forward_time_findings, is_need_too_old, is_too_late, is_too_often, is_too_rare, need_time_findings}
+use Rattle.j39_vehicle_times.specs.FoundTimes.{time_findings}
 use Rattle.j39_vehicle_times.proofs.DecidingTimes.{Decides-is_need_too_old, Decides-is_too_late, Decides-is_too_often, Decides-is_too_rare}
 
 abbrev in_order : Order TimeFinding
@@ -26,10 +28,13 @@ unfolding forward_time_findings
 forwards_covered v delays =
     let forwards = v.forwards.items in
     Covers-append in_order (TimeHolds v delays) 10 10 11 12 _ _ (omega arith) (omega arith) (omega arith)
-    (each_family in_order (TimeHolds v delays) 10 (IsTooOften v) (Decides-is_too_often v) TooOften forwards (λ i h. h) (λ i. record { number = refl; places = refl }))
+    (each_family in_order (TimeHolds v delays) 10 (IsTooOften v) (Decides-is_too_often v) TooOften forwards (λ i h. h)
+    (λ i. record { number = refl; places = refl }))
     (Covers-append in_order (TimeHolds v delays) 11 11 12 12 _ _ (omega arith) (omega arith) (omega arith)
-    (each_family in_order (TimeHolds v delays) 11 (IsTooLate v delays) (Decides-is_too_late v delays) TooLate forwards (λ i h. h) (λ i. record { number = refl; places = refl }))
-    (each_family in_order (TimeHolds v delays) 12 (IsTooRare v) (Decides-is_too_rare v) TooRare forwards (λ i h. h) (λ i. record { number = refl; places = refl })))
+    (each_family in_order (TimeHolds v delays) 11 (IsTooLate v delays) (Decides-is_too_late v delays) TooLate forwards (λ i h. h)
+    (λ i. record { number = refl; places = refl }))
+    (each_family in_order (TimeHolds v delays) 12 (IsTooRare v) (Decides-is_too_rare v) TooRare forwards (λ i h. h)
+    (λ i. record { number = refl; places = refl })))
 
 needs_covered : (v : Vehicle) (delays : Delays) → Covers v delays 13 13 (need_time_findings v delays)
 unfolding need_time_findings

@@ -1,6 +1,7 @@
 //! How long what comes along direct forwards takes, and how often it comes.
 ghost use Rattle.std.specs.Prelude.{◌≡◌, ◌<◌, ◌≤◌, ◌^◌, Some, IfSome};
-ghost use Rattle.j39_vehicle_times.specs.Times.{behind_at, behind_by, behind_of, behind_release, own, queued, queued_of, interval};
+ghost use Rattle.j39_vehicle_times.specs.Times.{behind_at, behind_by, behind_of, behind_release, own, queued};
+ghost use Rattle.j39_vehicle_times.specs.Times.{queued_of, interval};
 ghost use Rattle.j39_vehicle_times.specs.Times.{interval_by, interval_us, sum_known, unasked_at, within_of};
 ghost use Rattle.j39_vehicle_times.specs.inside.Chains.{hop_by};
 
@@ -15,7 +16,8 @@ use j39_network::{FlowPlan, Timing};
 use j39_vehicle::{Forward, Vehicle};
 use j39_vehicle_findings::{FlowAt, Routes};
 
-// How long behind its moment it has ended, where its delay has so many bits: an answer's moment lies before its release.
+// How long behind its moment it has ended, where its delay has so many bits: an answer's moment lies before its
+// release.
 fn behind_of(timing: Timing, askers: u16, flow: &FlowPlan, delay: u32) -> u64
     ensures value { result ≡ behind_of timing askers flow.now delay }
     ensures few { result < 2 ^ 36 }

@@ -2,7 +2,8 @@
 ghost use Rattle.std.specs.Prelude.{◌≡◌, ◌≢◌, [], IfOk, OnErr};
 ghost use Rattle.j39_search.specs.Adding.{Adds};
 ghost use Rattle.j39_search.specs.ListPlaces.{each};
-ghost use Rattle.j39_vehicle_times.specs.FoundTimes.{forward_time_findings, is_need_too_old, need_time_findings, time_findings};
+ghost use Rattle.j39_vehicle_times.specs.FoundTimes.{forward_time_findings, is_need_too_old, need_time_findings};
+ghost use Rattle.j39_vehicle_times.specs.FoundTimes.{time_findings};
 ghost use Rattle.j39_vehicle_times.specs.inside.DirectFaults.{direct_fault_at, has_direct_fault};
 
 use crate::bus_delays::Delays;
@@ -86,7 +87,8 @@ fn find_faulty(
     fault: DirectFault,
 ) -> Result<(), AllocError>
     ensures { let v = routes.now.vehicle.now in
-        Adds result findings.old.items findings.new.items (each (has_direct_fault v delays.now fault) (direct_fault_at fault) 0 v.forwards.items) }
+        Adds result findings.old.items findings.new.items
+        (each (has_direct_fault v delays.now fault) (direct_fault_at fault) 0 v.forwards.items) }
 {
     let rule = FaultyDirect {
         routes: *routes,
@@ -103,7 +105,8 @@ fn find_in_forwards(
     routes: &Routes<'_>,
     delays: &Delays,
 ) -> Result<(), AllocError>
-    ensures { Adds result findings.old.items findings.new.items (forward_time_findings routes.now.vehicle.now delays.now) }
+    ensures { Adds result findings.old.items findings.new.items
+        (forward_time_findings routes.now.vehicle.now delays.now) }
 {
     find_faulty(findings, routes, delays, DirectFault::TooOften)?;
     find_faulty(findings, routes, delays, DirectFault::TooLate)?;

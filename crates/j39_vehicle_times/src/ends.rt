@@ -8,7 +8,8 @@ ghost use Rattle.j39_vehicle_findings.specs.ForwardEnds.{output_flows};
 ghost use Rattle.j39_vehicle_times.specs.TimeFindings.{first_output, period_ms};
 ghost use Rattle.j39_vehicle_times.specs.FoundTimes.{direct_ends, ends_of, has_deadline, has_such_a_period, is_asked};
 ghost use Rattle.j39_vehicle_times.specs.FoundTimes.{is_late_asked, is_late_asked_of, is_later, is_long, is_more_often};
-ghost use Rattle.j39_vehicle_times.specs.FoundTimes.{comes_too_often, is_nearer, is_rarer, may_be_more, is_timed_bus, goes_to_all, is_too_late, is_too_often};
+ghost use Rattle.j39_vehicle_times.specs.FoundTimes.{comes_too_often, is_nearer, is_rarer, may_be_more, is_timed_bus};
+ghost use Rattle.j39_vehicle_times.specs.FoundTimes.{goes_to_all, is_too_late, is_too_often};
 ghost use Rattle.j39_vehicle_times.specs.FoundTimes.{is_too_rare, is_unlimited, is_known_within};
 
 use crate::bus_delays::Delays;
@@ -120,8 +121,8 @@ fn is_nearer(here: u32, input: &FlowPlan, there: u32, output: &FlowPlan) -> bool
     }
 }
 
-// Whether the output has a period, and more answers of the input may come at once than are counted of it, where so many ask
-// for either.
+// Whether the output has a period, and more answers of the input may come at once than are counted of it, where so many
+// ask for either.
 fn may_be_more(here: u16, there: u16, output: &FlowPlan) -> bool
     ensures { result ≡ may_be_more here there output.now }
 {

@@ -2,7 +2,8 @@
 ghost use Rattle.std.specs.Prelude.{◌≡◌, ◌≤◌, ◌<◌, ◌*◌, ◌^◌, IfSome};
 ghost use Rattle.std.specs.List.{find};
 ghost use Rattle.std.specs.Option.{option_copied};
-ghost use Rattle.j39_vehicle_times.specs.Times.{askers_on, flow_at, first_input_at, jitter_ms, latest_ms, own, own_of, pause_ns, pause_on, timed};
+ghost use Rattle.j39_vehicle_times.specs.Times.{askers_on, flow_at, first_input_at, jitter_ms, latest_ms, own, own_of};
+ghost use Rattle.j39_vehicle_times.specs.Times.{pause_ns, pause_on, timed};
 ghost use Rattle.j39_vehicle_times.specs.Times.{timing_on, us_of_ms, within_of};
 ghost use Rattle.j39_vehicle_times.specs.inside.Chains.{direct_place, input_by, is_direct_at};
 

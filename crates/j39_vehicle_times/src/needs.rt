@@ -1,7 +1,8 @@
 //! By which flow a need across buses is met, and how old what it brings is.
 ghost use Rattle.std.specs.Prelude.{◌≡◌, Some};
 ghost use Rattle.j39_search.specs.ListPlaces.{in_each};
-ghost use Rattle.j39_vehicle_times.specs.FoundTimes.{flow_of_need, is_need_too_old, is_older, is_younger, joined, need_flow_at};
+ghost use Rattle.j39_vehicle_times.specs.FoundTimes.{flow_of_need, is_need_too_old, is_older, is_younger, joined};
+ghost use Rattle.j39_vehicle_times.specs.FoundTimes.{need_flow_at};
 ghost use Rattle.j39_vehicle_times.specs.FoundTimes.{need_flow_count, need_flows_at, younger_of, youngest};
 
 use crate::ages::age;

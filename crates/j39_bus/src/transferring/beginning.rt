@@ -5,7 +5,8 @@ ghost use Rattle.j39_id.specs.Limits.{message_bytes};
 ghost use Rattle.j39_network.specs.declared.steps.Step.TheVariants.{Begin};
 ghost use Rattle.j39_bus.specs.BusState.{Histories};
 ghost use Rattle.j39_bus.specs.Stations.{station_at};
-ghost use Rattle.j39_bus.specs.inside.Network.{IsAllowed, IsNetwork, IsReadyFor, IsSameNetwork, KeepsPlan, Steps, has_begun, world_in};
+ghost use Rattle.j39_bus.specs.inside.Network.{IsAllowed, IsNetwork, IsReadyFor, IsSameNetwork, KeepsPlan, Steps};
+ghost use Rattle.j39_bus.specs.inside.Network.{has_begun, world_in};
 ghost use Rattle.j39_bus.specs.inside.KeptMessages.{item_frame};
 ghost use Rattle.j39_world.specs.Sent.{sent_of};
 ghost use Rattle.j39_world.specs.SentTransfers.{address_of, destination_of};
@@ -37,7 +38,8 @@ fn frame_of(destination: u8, source: u8, flow: &Flow, item: &Wired) -> Frame
 
 /// The places of the other units that are on, in order.
 fn others_on(alloc: Global, claimers: &[Claimer], unit: usize) -> Result<Vec<usize>, AllocError>
-    ensures { IfOk result (λ targets. targets.items ≡ filter (is_other_on (station_at claimers.now) unit) (range_with_len 0 (length claimers.now))) }
+    ensures { IfOk result (λ targets. targets.items ≡ filter (is_other_on (station_at claimers.now) unit)
+        (range_with_len 0 (length claimers.now))) }
 {
     let mut targets = Vec::with_capacity(alloc, claimers.len())?;
     for (place, claimer) in claimers.iter().enumerate() {
@@ -50,7 +52,8 @@ fn others_on(alloc: Global, claimers: &[Claimer], unit: usize) -> Result<Vec<usi
 
 /// The units that a message of the flow goes to.
 fn targets_of(alloc: Global, claimers: &[Claimer], flow: &Flow) -> Result<Vec<usize>, AllocError>
-    ensures { IfOk result (λ targets. targets.items ≡ targets_of (length claimers.now) (station_at claimers.now) flow.now.sender flow.now.to) }
+    ensures { IfOk result (λ targets. targets.items ≡ targets_of (length claimers.now)
+        (station_at claimers.now) flow.now.sender flow.now.to) }
 {
     match flow.to {
         To::All => others_on(alloc, claimers, flow.sender),
@@ -96,8 +99,10 @@ impl Network {
         ensures network { IsNetwork self.new }
         ensures plan { KeepsPlan self.old self.new }
         ensures rest { self.new ≡ record self.old { wire = self.new.wire; frames = self.new.frames } }
-        ensures world { (h : Histories) → let w = world_in h self.old in world_in h self.new ≡ sent_to w flow.now.sender targets.now item.now
-            (item_frame (destination_of w.stations flow.now.to) (address_of w.stations flow.now.sender) flow.now item.now) }
+        ensures world { (h : Histories) → let w = world_in h self.old
+            in world_in h self.new ≡ sent_to w flow.now.sender targets.now item.now
+            (item_frame (destination_of w.stations flow.now.to)
+            (address_of w.stations flow.now.sender) flow.now item.now) }
     {
         let claimers = self.claimers.as_slice();
         let source = source(claimers, flow.sender);

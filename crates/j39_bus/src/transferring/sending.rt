@@ -2,7 +2,8 @@
 ghost use Rattle.std.specs.Prelude.{◌≡◌, ◌≤◌, length, OnOk, OnErr};
 ghost use Rattle.j39_network.specs.declared.steps.Step.TheVariants.{Send};
 ghost use Rattle.j39_bus.specs.BusState.{Histories};
-ghost use Rattle.j39_bus.specs.inside.Network.{IsAllowed, IsNetwork, IsReadyFor, IsSameNetwork, KeepsPlan, Steps, has_sent, world_in};
+ghost use Rattle.j39_bus.specs.inside.Network.{IsAllowed, IsNetwork, IsReadyFor, IsSameNetwork, KeepsPlan, Steps};
+ghost use Rattle.j39_bus.specs.inside.Network.{has_sent, world_in};
 ghost use Rattle.j39_world.specs.TransferSteps.{sends_alone};
 
 use crate::network::Network;

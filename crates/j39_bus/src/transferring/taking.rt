@@ -100,7 +100,8 @@ impl Network {
         ensures receivers { self.new.receivers ≡ self.old.receivers }
         ensures world { OnOk result ((h : Histories) → let w = world_in h self.old in world_in h self.new ≡ record w {
           wire = changed_pair w.wire from to (drop 1 (w.wire from to));
-          reports = w.reports ++ record { receiver = to; sender = from; flow = flow; bytes = bytes.now; alone = alone } ∷ [];
+          reports = w.reports ++ record { receiver = to; sender = from; flow = flow; bytes = bytes.now; alone = alone }
+              ∷ [];
         }) }
         ensures same { OnErr result (IsSameNetwork self.old self.new) }
     {
@@ -195,7 +196,10 @@ impl Network {
         requires room { vec_len self.old.reports < vec_capacity self.old.reports }
         ensures rest { self.new ≡ record self.old { reports = self.new.reports } }
         ensures world { (h : Histories) → world_in h self.new ≡ record
-            (world_in h self.old) { reports = (world_in h self.old).reports ++ report (world_in h self.old) from to bytes.items ∷ [] } }
+            (world_in h self.old) {
+              reports = (world_in h self.old).reports
+                  ++ report (world_in h self.old) from to bytes.items ∷ [];
+            } }
     {
         let flow = sessions::flow_of(self.sessions.as_slice(), from);
         self.report_by(from, to, flow, bytes, false);
@@ -206,7 +210,8 @@ impl Network {
         requires room { vec_len self.old.reports < vec_capacity self.old.reports }
         ensures rest { self.new ≡ record self.old { reports = self.new.reports } }
         ensures world { (h : Histories) → let w = world_in h self.old in world_in h self.new ≡ record w {
-          reports = w.reports ++ record { receiver = to; sender = from; flow = flow; bytes = bytes.items; alone = alone } ∷ [];
+          reports = w.reports
+              ++ record { receiver = to; sender = from; flow = flow; bytes = bytes.items; alone = alone } ∷ [];
         } }
     {
         self.reports.push_reserved(Report {

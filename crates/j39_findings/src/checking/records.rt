@@ -61,7 +61,8 @@ impl Rule<Signal, Finding> for RepeatedSignal<'_> {
     ghost use Rattle.j39_findings.specs.declared.checking.finding.Finding.TheVariants.{RecordOverlap};
 
     ghost gives = { λ rule t other.
-        found_if (do_records_meet rule.every rule.count rule.place t rule.signal.now other) (RecordOverlap rule.group rule.place t) };
+        found_if (do_records_meet rule.every rule.count rule.place t rule.signal.now other)
+        (RecordOverlap rule.group rule.place t) };
 
     fn find(&self, findings: &mut Vec<Finding>, place: usize, other: &Signal) -> FindResult {
         push_if(

@@ -1,7 +1,8 @@
 //! Which requests are answered, and how.
 ghost use Rattle.std.specs.Prelude.{◌≡◌};
 ghost use Rattle.j39_search.specs.Adding.{Adds};
-ghost use Rattle.j39_findings.specs.Found.{ask_for_one_number, ask_the_same, goes_unanswered, goes_unheard, is_all_astray};
+ghost use Rattle.j39_findings.specs.Found.{ask_for_one_number, ask_the_same, goes_unanswered, goes_unheard};
+ghost use Rattle.j39_findings.specs.Found.{is_all_astray};
 ghost use Rattle.j39_findings.specs.Found.{is_answered_astray, is_one_astray, is_served_to_all, is_served_to_one};
 ghost use Rattle.j39_findings.specs.Found.{request_findings};
 ghost use Rattle.j39_network.specs.Serving.{is_served};

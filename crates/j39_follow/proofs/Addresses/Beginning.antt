@@ -190,7 +190,8 @@ module _ (plan : Plan) (before : List Timed) (x : Timed) (k : Claim) (at : IsCla
     λ holds. out (subst (λ (n : ℕ). HoldsByFrames (frames_of before) n k.address) at.claims.name_is holds),
   )
 
-  pub taken_defended : (old : Contention) (holder : Option ℕ) → IsHolder (frames_of before) k.address holder → ¬ HoldsByFrames (frames_of before) k.name k.address
+  pub taken_defended : (old : Contention) (holder : Option ℕ) → IsHolder (frames_of before) k.address holder
+      → ¬ HoldsByFrames (frames_of before) k.name k.address
       → is_defended old.contest (since_of holder old.since) k ≡ true → IsTakenBehind plan before old x k.address None
   taken_defended old holder holds out defends =
       inl (

@@ -199,7 +199,8 @@ one_taken_behind plan before old x a t u (inr (inr p)) (inl q) = absurd (p.0 q.0
 one_taken_behind plan before old x a t u (inr (inr p)) (inr (inl q)) = absurd (p.0 q.0)
 one_taken_behind plan before old x a t u (inr (inr p)) (inr (inr q)) = p.1 ∙ sym q.1
 
-one_held_since : (before : List Timed) (old : Contention) (x : Timed) (a : ℕ) (t u : Option ℕ) → IsHeldSince before old x a t → IsHeldSince before old x a u → t ≡ u
+one_held_since : (before : List Timed) (old : Contention) (x : Timed) (a : ℕ) (t u : Option ℕ) → IsHeldSince before old x a t → IsHeldSince before old x a u
+    → t ≡ u
 one_held_since before old x a t u (inl p) (inl q) = p.1 ∙ sym q.1
 one_held_since before old x a t u (inl p) (inr q) = absurd (q.0 p.0)
 one_held_since before old x a t u (inr p) (inl q) = absurd (p.0 q.0)

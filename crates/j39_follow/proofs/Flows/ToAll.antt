@@ -48,7 +48,8 @@ none_there false n e = refl
 pub none_fits : (p : FlowPlan → Bool) (flows : List FlowPlan) (k : ℕ) (d : FlowPlan) → position p flows ≡ None → k < length flows
     → p (get_or flows k d) ≡ false
 none_fits p flows k d none less =
-    let past = ltb-false (position_or_len p flows) (length flows) (none_there (nat_lt (position_or_len p flows) (length flows)) (position_or_len p flows) none) in
+    let past = ltb-false (position_or_len p flows) (length flows)
+    (none_there (nat_lt (position_or_len p flows) (length flows)) (position_or_len p flows) none) in
     fails_before_first p flows k d (omega (arith, past, less))
 
 -- the first flow of a plan that passes a test

@@ -139,7 +139,8 @@ after_event plan place r e old new asked answered refused opens = λ events few 
     let open_is = was.open_is in
     let times_more : times_asked place (events ++ e ∷ []) ≡ times_asked place events + one_if (asks place e) =
     sum_by_push (λ (x : Event). cond (asks place x) 1 0) events e in
-    let answered_more : times_answered plan place r (events ++ e ∷ []) ≡ times_answered plan place r events + one_if (ends_asking place own && answers plan r e) =
+    let answered_more : times_answered plan place r (events ++ e ∷ []) ≡ times_answered plan place r events + one_if
+    (ends_asking place own && answers plan r e) =
     ap (behind_asking place (answers plan r)) cut
     ∙ behind_more place (answers plan r) own e (concerns plan place r e) (second_of (asks place e) (answers plan r e) (refuses plan r e)) in
     let refused_more : times_refused plan place r (events ++ e ∷ []) ≡ times_refused plan place r events + one_if (ends_asking place own && refuses plan r e) =

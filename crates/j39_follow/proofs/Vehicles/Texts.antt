@@ -48,7 +48,12 @@ module _ (plan vehicle : Plan) (is : IsVehicleOf plan vehicle) (apart : AreDisti
 same_behind : (G : ℕ → Type 0) (p q : Plan) → ReportAlike G p q → (past : FollowedPast) (units : List ℕ)
     → behind_reports p past units ≡ behind_reports q past units
 same_behind G p q same past units =
-    rw (same_flow_ends G p q same past.sent, same_group_ends G p q same past.sent, same_request_ends G p q same past.events, same_need_ends G p q same past.sent)
+    rw (
+      same_flow_ends G p q same past.sent,
+      same_group_ends G p q same past.sent,
+      same_request_ends G p q same past.events,
+      same_need_ends G p q same past.sent,
+    )
     refl
 
 -- ---- a log
@@ -66,7 +71,8 @@ module _ (plan vehicle : Plan) (is : IsVehicleOf plan vehicle) (apart : AreDisti
       → (Done ≡ outcome) × DifferInNumbers plan log numbered alone
   followed all_frames log numbered alone outcome given sendable a other =
       let states : ReportAll Given (frames_seen a.past.seen) = given numbered a in
-      let all = lines_alike Given plan vehicle alike (no_identity plan vehicle is apart) all_frames (lines log) nothing_followed a.past a.reports refl states a.read in
+      let all = lines_alike Given plan vehicle alike (no_identity plan vehicle is apart) all_frames
+      (lines log) nothing_followed a.past a.reports refl states a.read in
       let units = same_unit_lines Given plan vehicle alike (frames_seen a.past.seen) states 0 plan.units.items vehicle.units.items a.units
       (λ k. ap (slice_get plan.units.items) (omega arith)) (λ k. ap (slice_get vehicle.units.items) (omega arith)) a.units_are in
       let built : IsFollowedLog vehicle all_frames log (without_numbers all.rows ++ behind_reports vehicle a.past a.units) = record {

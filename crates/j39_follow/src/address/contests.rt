@@ -1,5 +1,6 @@
 //! Contests for addresses.
-ghost use Rattle.std.specs.Prelude.{◌≡◌, ◌<◌, ◌==◌, ◌||◌, if◌then◌else◌, [], ◌∷◌, ◌++◌, ℕ, List, None, IfOk, OnOk, true};
+ghost use Rattle.std.specs.Prelude.{◌≡◌, ◌<◌, ◌==◌, ◌||◌, if◌then◌else◌, [], ◌∷◌, ◌++◌, ℕ, List, None, IfOk, OnOk};
+ghost use Rattle.std.specs.Prelude.{true};
 ghost use Rattle.std.specs.Prelude.{is_some};
 ghost use Rattle.j39_network.specs.declared.plan.Plan.{Plan as APlan};
 ghost use Rattle.j39_id.specs.FrameMeaning.{cannot_claim, claims_address, name_in};

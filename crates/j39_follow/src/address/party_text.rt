@@ -103,7 +103,8 @@ fn write_receiver(
 ) -> WriteResult
     ensures { OnOk result (HasNames plan.now parties.now.all parties.now.names → text.new ≡ text.old
         ++ (codes " to "
-        ++ (if goes_to_all ident then codes "all" else who_text plan.now (party_at parties.now.all ident.ps) ident.ps))) }
+        ++ (if goes_to_all ident then codes "all"
+        else who_text plan.now (party_at parties.now.all ident.ps) ident.ps))) }
 {
     if is_to_all(ident) {
         text.word(" to all")

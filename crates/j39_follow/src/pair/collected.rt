@@ -5,8 +5,8 @@ ghost use Rattle.j39_tp.specs.Chunks.{packets_of};
 use j39_id::Pgn;
 use j39_tp::{Chunk, Size};
 
-/// What was announced to a unit, up to which packet all came in order, and of each packet what came of it last: none has
-/// the number 0.
+/// What was announced to a unit, up to which packet all came in order, and of each packet what came of it last: none
+/// has the number 0.
 #[derive(Drop)]
 pub(crate) struct Collected {
     pub size: Size,

@@ -1,9 +1,11 @@
 //! The packets of a message to one unit, in whatever order they come.
-ghost use Rattle.std.specs.Prelude.{◌≡◌, ◌<◌, ◌==◌, ◌&&◌, ◌+◌, ◌∷◌, [], ℕ, List, Some, Option, length, IfOk, if◌then◌else◌};
+ghost use Rattle.std.specs.Prelude.{◌≡◌, ◌<◌, ◌==◌, ◌&&◌, ◌+◌, ◌∷◌, [], ℕ, List, Some, Option, length, IfOk};
+ghost use Rattle.std.specs.Prelude.{if◌then◌else◌};
 ghost use Rattle.std.specs.Prelude.{option_map};
 ghost use Rattle.j39_tp.specs.declared.packet.Packet.{Packet as APacket};
 ghost use Rattle.j39_tp.specs.declared.packet.Packet.TheVariants.{Dt as Data, Rts as AStart};
-ghost use Rattle.j39_follow.specs.inside.Collecting.{Closes, HasBytes, IsCollected, IsMoreOf, IsOpened, CollectsOn, chunk_at};
+ghost use Rattle.j39_follow.specs.inside.Collecting.{Closes, HasBytes, IsCollected, IsMoreOf, IsOpened, CollectsOn};
+ghost use Rattle.j39_follow.specs.inside.Collecting.{chunk_at};
 ghost use Rattle.j39_follow.specs.Received.{IsReceivedOr};
 ghost use Rattle.j39_follow.specs.declared.pair.collected.Collected.{Collected as ACollected};
 ghost use Rattle.j39_tp.specs.Chunks.{packets_of};
@@ -130,7 +132,8 @@ fn without(collected: Option<Collected>, pgn: Pgn) -> Option<Collected>
 
 // What is kept behind the announcement of a message to one.
 fn started(alloc: Global, size: Size, pgn: Pgn) -> Result<Option<Collected>, AllocError>
-    ensures { IfOk result (λ new. (old : Option ACollected) (limit : ℕ) → CollectsOn old new (AStart size limit pgn ∷ [])) }
+    ensures { IfOk result (λ new. (old : Option ACollected) (limit : ℕ)
+        → CollectsOn old new (AStart size limit pgn ∷ [])) }
 {
     let _ = size.bytes();
     let collected = opened(alloc, size, pgn)?;

@@ -1,11 +1,13 @@
 //! The packets of messages to one unit of each pair of addresses, in whatever order they come.
-ghost use Rattle.std.specs.Prelude.{◌≡◌, ◌≢◌, ◌<◌, ◌==◌, ◌||◌, ◌∷◌, [], ℕ, List, None, OnOk, IfOk, if◌then◌else◌, option_map, Some as ASome};
+ghost use Rattle.std.specs.Prelude.{◌≡◌, ◌≢◌, ◌<◌, ◌==◌, ◌||◌, ◌∷◌, [], ℕ, List, None, OnOk, IfOk, if◌then◌else◌};
+ghost use Rattle.std.specs.Prelude.{option_map, Some as ASome};
 ghost use Rattle.j39_tp.specs.declared.packet.Packet.{Packet as APacket};
 ghost use Rattle.j39_log.specs.PairListeners.{is_of_pair, is_pair};
 ghost use Rattle.j39_follow.specs.Received.{IsReceivedOr, way_packet};
 ghost use Rattle.j39_log.specs.LogPairs.{is_abort as aborts};
 ghost use Rattle.j39_follow.specs.inside.Collecting.{reports_whole};
-ghost use Rattle.j39_follow.specs.inside.Collecting.{IsCollectedOf, CollectsOn, collected_between, collected_for, pair_key as key_of_pair};
+ghost use Rattle.j39_follow.specs.inside.Collecting.{IsCollectedOf, CollectsOn, collected_between, collected_for};
+ghost use Rattle.j39_follow.specs.inside.Collecting.{pair_key as key_of_pair};
 
 use crate::pair::collected::Collected;
 use crate::pair::collecting::{collect, whole};
@@ -59,7 +61,8 @@ impl Collections {
 
     // A packet of a pair.
     fn turn(&mut self, key: u32, packet: &Packet) -> Result<(), AllocError>
-        ensures one { OnOk result (CollectsOn (collected_for self.old key) (collected_for self.new key) (packet.now ∷ [])) }
+        ensures one { OnOk result (CollectsOn (collected_for self.old key) (collected_for self.new key)
+            (packet.now ∷ [])) }
         ensures others { OnOk result ((other : ℕ) → other ≢ key
             → collected_for self.new other ≡ collected_for self.old other) }
     {
@@ -112,7 +115,8 @@ impl Collections {
         size: Size,
         pgn: Pgn,
     ) -> Result<Option<Vec<u8>>, AllocError>
-        ensures { IfOk result (λ message. (h : List APacket) → IsCollectedOf (collected_between self.now source destination) h
+        ensures { IfOk result (λ message. (h : List APacket)
+            → IsCollectedOf (collected_between self.now source destination) h
             → IsReceivedOr h size pgn (option_map (λ bytes. bytes.items) message)) }
     {
         match self.kept.get(&pair_key(source, destination)) {

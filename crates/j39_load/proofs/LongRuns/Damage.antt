@@ -33,7 +33,8 @@ module _ (timing : Timing) (d : Damaged) where
 
   -- where it is exact they begin in as much true time
   pub in_true_time : timing.drift ≡ 0 → (ms from : ℕ) → attempts_in ms from ≤ attempts_within timing ms d from
-  in_true_time agree ms from = total-le d.count (λ e. cond (is_begun_within timing ms d from e) 1 0) (λ e. cond (begins_within timing ms d from e) 1 0) (λ e below.
+  in_true_time agree ms from = total-le d.count (λ e. cond (is_begun_within timing ms d from e) 1 0) (λ e. cond (begins_within timing ms d from e) 1 0)
+      (λ e below.
       elim (cases_Bool (is_begun_within timing ms d from e)) [
         | inr fails ↦ rw (fails) (omega arith)
         | inl is ↦
@@ -41,9 +42,12 @@ module _ (timing : Timing) (d : Damaged) where
             let high = ltb-true (d.begin e * bit_time timing.bitrate) (from * bit_time timing.bitrate + 1000 * ms) two.1 in
             let there : begins_within timing ms d from e ≡ true =
             and_from (not (ltb (d.begin e) from))
-            (ltb (d.begin e * bit_time timing.bitrate * longest_million timing) (from * bit_time timing.bitrate * longest_million timing + 1000 * ms * million)) two.0
-            (lt-ltb (d.begin e * bit_time timing.bitrate * longest_million timing) (from * bit_time timing.bitrate * longest_million timing + 1000 * ms * million)
-            (by_million (d.begin e * bit_time timing.bitrate) (from * bit_time timing.bitrate) (1000 * ms) (longest_million timing) (omega (arith, agree)) high)) in
+            (ltb (d.begin e * bit_time timing.bitrate * longest_million timing)
+            (from * bit_time timing.bitrate * longest_million timing + 1000 * ms * million)) two.0
+            (lt-ltb (d.begin e * bit_time timing.bitrate * longest_million timing)
+            (from * bit_time timing.bitrate * longest_million timing + 1000 * ms * million)
+            (by_million (d.begin e * bit_time timing.bitrate) (from * bit_time timing.bitrate) (1000 * ms) (longest_million timing)
+            (omega (arith, agree)) high)) in
             rw (is, there) (omega arith)
       ])
     where

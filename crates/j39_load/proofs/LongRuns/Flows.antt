@@ -22,7 +22,8 @@ use Rattle.j39_load.specs.KeepsPlan.{KeepsToPlan, source_place}
 use Rattle.j39_load.specs.Loads.{bits_at_least, bits_of_ms, load_of, load_of_messages, long_messages, packet_frames, single_frames}
 use Rattle.j39_load.specs.LongRuns.{seconds}
 use Rattle.j39_load.specs.PlannedFrames.{planned_at}
-use Rattle.j39_load.specs.SentFrames.{FrameSources, Held, IsRequestFrame, IsSessionFrame, IsSingleFrame, Source, Single, First, InSession, Asking, Announcing, Carrying}
+use Rattle.j39_load.specs.SentFrames.{FrameSources, Held, IsRequestFrame, IsSessionFrame, IsSingleFrame, Source, Single, First, InSession, Asking, Announcing}
+use Rattle.j39_load.specs.SentFrames.{Carrying}
 use Rattle.j39_load.proofs.KeepingPlan.{there}
 use Rattle.j39_load.proofs.LongRuns.Rates.{IsRate, load_is_rate}
 use Rattle.j39_load.proofs.Milliseconds.{some_bits}
@@ -36,7 +37,8 @@ use Rattle.j39_tp.specs.Chunks.{packets_of}
 use Rattle.j39_load.proofs.LongRuns.Frames.{Counts, IsAskedAlike, at_rate, bits_at, frame_of, index, kind, more_at, some_counts, whole}
 
 -- as many messages of a flow are asked for as its pace has
-asked_alike : (timing : Timing) (pace : Pace) (frames : FlowFrames) (k : ℕ) → frames.stream.wanted ≡ None → frames.stream.period ≡ bits_at_least timing pace.period
+asked_alike : (timing : Timing) (pace : Pace) (frames : FlowFrames) (k : ℕ) → frames.stream.wanted ≡ None
+    → frames.stream.period ≡ bits_at_least timing pace.period
     → IsAskedAlike (frames_for timing pace k frames).stream
 asked_alike timing pace frames zero none period want is = absurd (none-some want (sym (spaced_unwanted (frames_for timing pace 0 frames).stream none) ∙ is))
 asked_alike timing pace frames (suc more) none period want is =
@@ -112,7 +114,8 @@ module _ (plan : Plan) (timing : Timing) (stays : UnitPlan → Bool) (states : D
           let frames = own plan timing stays i one.flow one.pace one.group one.its one.paced one.of in
           of_frames frames one.pace.period asks
           (there plan timing stays states clean s queued_first planned sent held keeps i (sent.release p) p one) one.pace.period_positive refl
-          (asked_alike timing one.pace (single_frames timing plan.units.items stays one.flow one.pace one.group) (askers_of plan.requests.items one.flow) refl refl)
+          (asked_alike timing one.pace (single_frames timing plan.units.items stays one.flow one.pace one.group)
+          (askers_of plan.requests.items one.flow) refl refl)
           (ap (λ (b : Bool). load_of_messages timing (if b then Short (single_frames timing plan.units.items stays one.flow one.pace one.group)
           else long_messages timing plan.units.items stays one.flow one.pace one.group one.flow.to) one.pace.period) (le-leb one.group.most 8 one.short))
           (get_or_from_slice_get (asked plan timing stays).flows i (Some asks) None

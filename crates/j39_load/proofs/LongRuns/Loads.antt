@@ -156,7 +156,8 @@ module _ (plan : Plan) (timing : Timing) (stays : UnitPlan → Bool) (states : D
 
       in_some_time : bits_queued timing (seconds n) s (counts_in_load planned sent) from ≤ n * all_rates + more
       in_some_time =
-          let kinds_of : bits_queued timing (seconds n) s (counts_in_load planned sent) from ≤ total 4 (λ k. total s.count (λ p. cond (kinds k p) (s.bits p) 0)) =
+          let kinds_of : bits_queued timing (seconds n) s (counts_in_load planned sent) from ≤ total 4
+          (λ k. total s.count (λ p. cond (kinds k p) (s.bits p) 0)) =
           all_grouped s.count counts (λ p. kind (sent.source p)) s.bits 4 (λ p in_p passing.
           let is = (and_parts (counts_in_load planned sent p) (is_queued_within timing (seconds n) s from p) passing).0 in
           kind_below (sent.source p) (and_parts (planned p) (is_counted (sent.source p)) is).1) in
@@ -202,15 +203,18 @@ module _ (plan : Plan) (timing : Timing) (stays : UnitPlan → Bool) (states : D
         let most = planned_most s bus.queued_first planned sent held keeps from n agree in
         let all = both n (load_of_damage timing) all_rates in
         let each : bits_damaged timing (seconds n) d from ≤ 191 * attempts_in timing d (seconds n) from =
-        total-times d.count (is_begun_within timing (seconds n) d from) (is_begun_within timing (seconds n) d from) (λ e. d.sent e + d.error e) 191 (λ e below is.
+        total-times d.count (is_begun_within timing (seconds n) d from) (is_begun_within timing (seconds n) d from) (λ e. d.sent e + d.error e) 191
+        (λ e below is.
         let sent_bits = attempt_few s d bus (longest_of plan timing stays states clean s bus.queued_first planned sent held keeps) e below in
         let error_bits = bus.error_at_most e below in
         (is, omega (arith, sent_bits, error_bits))) in
         let damaged = damage_rate timing d rate.every rate.count
         (λ at. let own = in_true_time timing d agree rate.every at in let few = errors.seldom at in omega (arith, own, few)) 191 n from rate.every_positive in
         let load : load_of_damage timing ≡ div_ceil (1000 * (rate.count * 191)) rate.every =
-        ap (λ (x : Option ErrorRate). option_map_or (λ (r : ErrorRate). div_ceil (1000 * (r.count * 191) * longest_million timing) (r.every * million)) x 0) errors.stated
-        ∙ agreed_rate (1000 * (rate.count * 191)) rate.every (longest_million timing) million million (omega (arith, agree)) refl (omega arith) rate.every_positive in
+        ap (λ (x : Option ErrorRate). option_map_or (λ (r : ErrorRate). div_ceil (1000 * (r.count * 191) * longest_million timing)
+        (r.every * million)) x 0) errors.stated
+        ∙ agreed_rate (1000 * (rate.count * 191)) rate.every (longest_million timing) million million (omega (arith, agree)) refl
+        (omega arith) rate.every_positive in
         let times : n * load_of_damage timing ≡ n * div_ceil (1000 * (rate.count * 191)) rate.every = ap (λ (x : ℕ). n * x) load in
         let once : more_damage timing.errors ≡ rate.count * 191 = ap more_damage errors.stated in
         omega (arith, most, all, each, damaged, times, once);

@@ -56,7 +56,8 @@ pub want_rate : (want : Want) (bits span rate : ℕ) → 0 < want.period → wan
     → frames_of_want span want * bits ≤ rate + more_wanted want bits
 want_rate want bits span rate positive le =
     let slots = slots_rate (want.frames * bits) span want.period want.jitter rate positive le in
-    let same : frames_of_want span want * bits ≡ want.frames * bits * div_ceil (span + want.jitter) want.period + want.frames * bits * want.more = grind arith in
+    let same : frames_of_want span want * bits ≡ want.frames * bits * div_ceil
+    (span + want.jitter) want.period + want.frames * bits * want.more = grind arith in
     let more : more_wanted want bits ≡ want.frames * bits * (1 + div_ceil want.jitter want.period) + want.frames * bits * want.more = grind arith in
     omega (arith, slots, same, more)
 

@@ -31,7 +31,8 @@ use Rattle.j39_load.specs.SentFrames.{Broadcasts, FrameSources, Held, Source, Si
 use Rattle.j39_load.proofs.KeepingBroadcasts.{IsAnnouncement, IsCopy, IsTimed, announced_most, each_timed, message_of}
 use Rattle.j39_load.proofs.KnownFrames.{IsPaced}
 use Rattle.j39_load.proofs.KeepingPlan.{stated_stream}
-use Rattle.j39_load.proofs.LongRuns.Rates.{IsRate, announcement_rate, beside_rate, both, lesser_rate, each_is_rate, first_rate, gaps_are_rate, more_of, stream_rate, sum_by-two, wants_rate}
+use Rattle.j39_load.proofs.LongRuns.Rates.{IsRate, announcement_rate, beside_rate, both, lesser_rate, each_is_rate, first_rate, gaps_are_rate, more_of}
+use Rattle.j39_load.proofs.LongRuns.Rates.{stream_rate, sum_by-two, wants_rate}
 use Rattle.j39_load.proofs.LongRuns.Streams.{more_bits}
 use Rattle.j39_load.proofs.Milliseconds.{gaps_bits, some_bits}
 use Rattle.j39_load.proofs.PlacedFrames.{asked, is_by, its_broadcast, load}
@@ -114,7 +115,8 @@ module _ (plan : Plan) (timing : Timing) (stays : UnitPlan → Bool) (states : D
       let positive_gaps : 1 * 1 ≤ gaps * timing.broadcast_gap = mul-le 1 1 gaps timing.broadcast_gap some (omega (arith, least)) in
       let one_gap = some_bits timing timing.broadcast_gap (omega (arith, least)) in
       let positive_bits : 1 * 1 ≤ gaps * gap = mul-le 1 1 gaps gap some one_gap in
-      subst (λ (x : ℕ). share x (spaced plan timing stays gaps) ≤ n * bits_each timing 1 (gaps * timing.broadcast_gap) + more_spaced plan timing stays gaps) (sym span)
+      subst (λ (x : ℕ). share x (spaced plan timing stays gaps) ≤ n * bits_each timing 1 (gaps * timing.broadcast_gap) + more_spaced plan timing stays gaps)
+      (sym span)
       (stream_rate timing (spaced plan timing stays gaps) n (bits_each timing 1 (gaps * timing.broadcast_gap)) (omega (arith, positive_bits))
       (gaps_are_rate timing agree gaps timing.broadcast_gap (omega (arith, positive_gaps))))
 
@@ -186,7 +188,8 @@ module _ (plan : Plan) (timing : Timing) (stays : UnitPlan → Bool) (states : D
         rated p in_p is (Announcing v m) at of_kind place = absurd (omega (arith, of_kind))
         rated p in_p is (Carrying v m k) at of_kind place =
             let source : sent.source p ≡ Carrying u m k = at ∙ ap (λ (w : ℕ). Carrying w m k) place in
-            let frame = frame_of plan timing stays states clean s queued_first planned sent held keeps from wait n span agree p in_p is (Carrying u m k) source in
+            let frame = frame_of plan timing stays states clean s queued_first planned sent held keeps from wait n span agree p in_p is
+            (Carrying u m k) source in
             let j = source_place plan (Carrying u m k) in
             let stated : streams (source_place plan (Carrying u m k)) ≡ spaced_stream timing 1 (packets_demand u) =
             subst (λ (x : Source). IsPaced plan timing stays x (streams (source_place plan x))) source
@@ -231,7 +234,8 @@ module _ (plan : Plan) (timing : Timing) (stays : UnitPlan → Bool) (states : D
     of_both = total-two s.count (λ p. cond (of_index plan timing stays states clean s queued_first planned sent held keeps from wait n span agree 2 u p)
         (s.bits p) 0) (λ p. cond (of_index plan timing stays states clean s queued_first planned sent held keeps from wait n span agree 2 u p && is_first p)
         (s.bits p) 0)
-        (λ p. cond (of_index plan timing stays states clean s queued_first planned sent held keeps from wait n span agree 2 u p && not (is_first p)) (s.bits p) 0)
+        (λ p. cond (of_index plan timing stays states clean s queued_first planned sent held keeps from wait n span agree 2 u p && not (is_first p))
+        (s.bits p) 0)
         (λ p in_p.
         elim (of_index plan timing stays states clean s queued_first planned sent held keeps from wait n span agree 2 u p) as
         (λ e. cond e (s.bits p) 0 ≤ cond (e && is_first p) (s.bits p) 0 + cond (e && not (is_first p)) (s.bits p) 0) [
@@ -308,8 +312,10 @@ module _ (plan : Plan) (timing : Timing) (stays : UnitPlan → Bool) (states : D
         → of_index plan timing stays states clean s queued_first planned sent held keeps from wait n span agree 2 u q && not (is_first q) ≡ true
         → (s.queued p + least_announced bs * gap ≤ s.queued q) ⊎ (s.queued q + least_announced bs * gap ≤ s.queued p)
     other_apart p q in_p in_q other is_p is_q =
-        let two_p = and_parts (of_index plan timing stays states clean s queued_first planned sent held keeps from wait n span agree 2 u p) (not (is_first p)) is_p in
-        let two_q = and_parts (of_index plan timing stays states clean s queued_first planned sent held keeps from wait n span agree 2 u q) (not (is_first q)) is_q in
+        let two_p = and_parts (of_index plan timing stays states clean s queued_first planned sent held keeps from wait n span agree 2 u p)
+        (not (is_first p)) is_p in
+        let two_q = and_parts (of_index plan timing stays states clean s queued_first planned sent held keeps from wait n span agree 2 u q)
+        (not (is_first q)) is_q in
         let x = parts plan timing stays states clean s queued_first planned sent held keeps from wait n span agree 2 u p two_p.0 in
         let y = parts plan timing stays states clean s queued_first planned sent held keeps from wait n span agree 2 u q two_q.0 in
         let a = counted p in_p x in
@@ -344,10 +350,13 @@ module _ (plan : Plan) (timing : Timing) (stays : UnitPlan → Bool) (states : D
         (and_parts (of_index plan timing stays states clean s queued_first planned sent held keeps from wait n span agree 2 u p)
         (not (is_first p)) is).0)).short) other_apart
         (div_ceil (wait + 1 + 0) (least_announced bs * gap)) from (wait + 1) (omega (arith, cover)) in
-        let all : other_bits_at ≤ total s.count (λ p. cond (of_index plan timing stays states clean s queued_first planned sent held keeps from wait n span agree 2 u p && not (is_first p) && inside from (wait + 1) (s.queued p)) (s.bits p) 0) =
+        let all : other_bits_at ≤ total s.count
+        (λ p. cond (of_index plan timing stays states clean s queued_first planned sent held keeps from wait n span agree 2 u p && not (is_first p)
+        && inside from (wait + 1) (s.queued p)) (s.bits p) 0) =
         total-le s.count (λ p. cond (of_index plan timing stays states clean s queued_first planned sent held keeps from wait n span agree 2 u p && not
         (is_first p)) (s.bits p) 0)
-        (λ p. cond (of_index plan timing stays states clean s queued_first planned sent held keeps from wait n span agree 2 u p && not (is_first p) && inside from
+        (λ p. cond (of_index plan timing stays states clean s queued_first planned sent held keeps from wait n span agree 2 u p && not (is_first p)
+        && inside from
         (wait + 1) (s.queued p)) (s.bits p) 0) (λ p in_p.
         elim (cases_Bool (of_index plan timing stays states clean s queued_first planned sent held keeps from wait n span agree 2 u p && not (is_first p))) [
           | inr fails ↦ rw (fails) (omega arith)
@@ -422,7 +431,8 @@ module _ (plan : Plan) (timing : Timing) (stays : UnitPlan → Bool) (states : D
           ap (λ (x : Stream). lesser (wait + 1) x (Some (demand_by Announcements (wants_of (whole plan timing stays) u)))) stated in
           let wanted = wanted_bits (want_of Announcements) (λ x. bits_of_firsts timing x + bits_of_announcements timing x) (λ x. refl)
           (λ x is_timed. announcement_rate timing agree x is_timed) 0 0 refl in
-          let both : n * sum_by (λ x. bits_of_firsts timing x + bits_of_announcements timing x) bs ≡ n * (load_of_firsts timing bs + sum_by (bits_of_announcements timing) bs) =
+          let both : n * sum_by (λ x. bits_of_firsts timing x + bits_of_announcements timing x) bs
+          ≡ n * (load_of_firsts timing bs + sum_by (bits_of_announcements timing) bs) =
           ap (λ (x : ℕ). n * x) (sum_by-two (bits_of_firsts timing) (bits_of_announcements timing) bs) in
           omega (arith, demand, same, wanted, both)
 
@@ -480,12 +490,16 @@ module _ (plan : Plan) (timing : Timing) (stays : UnitPlan → Bool) (states : D
         carried p in_p is (Asking r) at of_kind place = absurd (omega (arith, of_kind))
         carried p in_p is (Announcing v m) at of_kind place = absurd (omega (arith, of_kind))
         carried p in_p is (Carrying v m k) at of_kind place =
-            let source : sent.source p ≡ Carrying u m k = at ∙ ap (λ (w : ℕ). Carrying w m k) place in
-            (m, (frame_of plan timing stays states clean s queued_first planned sent held keeps from wait n span agree p in_p is (Carrying u m k) source).0.known)
+            let source : sent.source p ≡ Carrying u m k = at ∙ ap (λ (w : ℕ). Carrying w m k) place in (
+              m,
+              (frame_of plan timing stays states clean s queued_first planned sent held keeps from wait n span agree p in_p is
+                  (Carrying u m k) source).0.known,
+            )
 
         a_message : 0 < bits 2 u + bits 3 u → (m : ℕ) × (m < b.count u)
         a_message some = elim (cases_lt 0 (bits 2 u)) [
-          | inl first ↦ let (p, in_p, x) = some_counts plan timing stays states clean s queued_first planned sent held keeps from wait n span agree 2 u first in let a = counted p in_p x in (a.message, a.known)
+          | inl first ↦ let (p, in_p, x) = some_counts plan timing stays states clean s queued_first planned sent held keeps from wait n span agree 2 u first
+              in let a = counted p in_p x in (a.message, a.known)
           | inr none ↦
               let (p, in_p, x) = some_counts plan timing stays states clean s queued_first planned sent held keeps from wait n span agree 3 u
               (omega (arith, some, none)) in

@@ -9,7 +9,8 @@ use crate::waits::Delay;
 use j39_network::{FlowPlan, NeedPlan, RequestPlan, Timing, is_met, meets};
 use j39_search::FindResult;
 
-// The age of what a flow of this delay brings, in microseconds, where one is known: it isn't known when answers are asked for.
+// The age of what a flow of this delay brings, in microseconds, where one is known: it isn't known when answers are
+// asked for.
 fn age_of(timing: Timing, flow: &FlowPlan, delay: Option<Delay>) -> Option<u64>
     ensures some { IfSome result (λ age. ages_of timing flow.now delay ≡ age ∷ []) }
     ensures none { IfNone result (ages_of timing flow.now delay ≡ []) }
@@ -55,8 +56,8 @@ fn age_for(
     }
 }
 
-/// How old what a unit needs is at most, in microseconds, by these delays of the flows: none where of no flow that brings it an
-/// age is known.
+/// How old what a unit needs is at most, in microseconds, by these delays of the flows: none where of no flow that
+/// brings it an age is known.
 #[tactic(auto, unfolding(crate::specs::LineLists::lines_of_each))]
 pub fn least_age(
     timing: Timing,
@@ -179,7 +180,8 @@ fn oldness(
     need: &NeedPlan,
 ) -> Option<LoadFinding>
     requires { length delays.now ≡ length flows.now }
-    ensures some { IfSome result (λ finding. oldness timing requests.now flows.now delays.now place need.now ≡ finding ∷ []) }
+    ensures some { IfSome result (λ finding. oldness timing requests.now flows.now delays.now place need.now ≡ finding
+        ∷ []) }
     ensures none { IfNone result (oldness timing requests.now flows.now delays.now place need.now ≡ []) }
 {
     match need.within {

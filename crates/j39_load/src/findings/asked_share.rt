@@ -7,8 +7,8 @@ use j39_network::limits::REQUEST_LIMIT;
 /// So many digits have room for what all requests of a plan ask.
 const DIGIT_LIMIT: usize = REQUEST_LIMIT + 1;
 
-/// Two numbers of so many digits of base 65,536, from the least on: the parts that are asked of a flow, and how many make a
-/// whole.
+/// Two numbers of so many digits of base 65,536, from the least on: the parts that are asked of a flow, and how many
+/// make a whole.
 #[derive(Clone, Copy)]
 pub(crate) struct AskedShare {
     asked: [u16; DIGIT_LIMIT],
@@ -16,8 +16,8 @@ pub(crate) struct AskedShare {
     count: usize,
 }
 
-// Makes of the first digits of a number so many times their number and so many times another one. Answers what goes on to
-// further digits.
+// Makes of the first digits of a number so many times their number and so many times another one. Answers what goes on
+// to further digits.
 fn combine(
     number: &mut [u16; DIGIT_LIMIT],
     times: u16,
@@ -85,12 +85,14 @@ impl AskedShare {
         }
     }
 
-    /// Adds what a request asks each so many milliseconds, of a flow of this period. Answers whether more is asked than a
-    /// whole; if so, it is of no further use.
+    /// Adds what a request asks each so many milliseconds, of a flow of this period. Answers whether more is asked than
+    /// a whole; if so, it is of no further use.
     pub(crate) fn add(&mut self, period: u16, every: u16) -> bool
         requires { self.old.count < digit_limit }
-        ensures more { result ≡ nat_lt (every * whole_in self.old) (period * whole_in self.old + every * parts_asked_in self.old) }
-        ensures asked { result ≡ false → parts_asked_in self.new ≡ period * whole_in self.old + every * parts_asked_in self.old }
+        ensures more { result ≡ nat_lt (every * whole_in self.old)
+            (period * whole_in self.old + every * parts_asked_in self.old) }
+        ensures asked { result ≡ false → parts_asked_in self.new
+            ≡ period * whole_in self.old + every * parts_asked_in self.old }
         ensures whole { result ≡ false → whole_in self.new ≡ every * whole_in self.old }
         ensures count { result ≡ false → self.new.count ≡ self.old.count + 1 }
     {

@@ -69,7 +69,8 @@ pub(crate) fn find_asked_too_often(
     flows: &[FlowPlan],
 ) -> FindResult
     requires { length requests.now ≤ request_limit }
-    ensures found { OnOk result (findings.new.items ≡ findings.old.items ++ flows_asked_too_often requests.now flows.now) }
+    ensures found { OnOk result (findings.new.items ≡ findings.old.items
+        ++ flows_asked_too_often requests.now flows.now) }
     ensures memory { OnErr result (flows_asked_too_often requests.now flows.now ≢ []) }
 {
     for (place, flow) in flows.iter().enumerate() {

@@ -22,8 +22,8 @@ pub struct LoadAnswer {
 }
 
 impl LoadAnswer {
-    /// What is reported of a plan with this timing. No memory is asked for where it has neither flows nor requests, unless
-    /// damaged frames alone are too many for the bus.
+    /// What is reported of a plan with this timing. No memory is asked for where it has neither flows nor requests,
+    /// unless damaged frames alone are too many for the bus.
     pub fn new(alloc: Global, timing: Timing, plan: &Plan) -> Result<Self, AllocError>
         ensures answer { IfOk result (IsLoadAnswer plan.now timing) }
         ensures flows { IfOk result (λ answer. length answer.loads.flows.items ≡ length plan.now.flows.items) }

@@ -64,8 +64,8 @@ fn destination_place(to: To) -> u8
     }
 }
 
-/// What distinguishes the frames of a flow from all but its twins, where its group is distinguished by its data: the number that their
-/// identifier would be if each unit's address was its place.
+/// What distinguishes the frames of a flow from all but its twins, where its group is distinguished by its data: the
+/// number that their identifier would be if each unit's address was its place.
 pub(crate) fn twin_ident(group: &GroupPlan, flow: &FlowPlan) -> Option<u64>
     requires sender { flow.now.sender < unit_limit }
     requires receiver { (v : ℕ) → flow.now.to ≡ One v → v < unit_limit }

@@ -3,7 +3,8 @@ ghost use Rattle.std.specs.Prelude.{◌≡◌, ◌<◌, ◌≤◌, ◌*◌, ◌^
 ghost use Rattle.j39_load.specs.Broadcasts.{bits_each, spaced_stream};
 ghost use Rattle.j39_load.specs.Clocks.{bit_time, longest_million, shortest_million};
 ghost use Rattle.j39_load.specs.RequestLoads.{request_stream};
-ghost use Rattle.j39_load.specs.Loads.{bits_a_second, bits_at_least, bits_at_most, bits_inside, bits_of_ms, bits_of_second};
+ghost use Rattle.j39_load.specs.Loads.{bits_a_second, bits_at_least, bits_at_most, bits_inside, bits_of_ms};
+ghost use Rattle.j39_load.specs.Loads.{bits_of_second};
 ghost use Rattle.j39_load.specs.Loads.{bits_per_ms, frames_to_all, frames_to_one, load_of, us_of_bits, us_of_unit_ms};
 ghost use Rattle.j39_load.specs.Loads.{most_bytes, packet_stream, single_stream};
 ghost use Rattle.j39_load.specs.inside.PlannedBuses.{units_in};
@@ -123,8 +124,8 @@ pub(crate) fn us_of_unit_ms(timing: Timing, ms: u16) -> u64
     (1_000 * u64::from(ms) * u64::from(longest_million(timing))).div_ceil(u64::from(MILLION))
 }
 
-// How many bits the bus carries at most in a second of its own clock, where so many come once in so many milliseconds of
-// a unit's.
+// How many bits the bus carries at most in a second of its own clock, where so many come once in so many milliseconds
+// of a unit's.
 #[tactic(auto, using(crate::proofs::Milliseconds::few_a_second))]
 fn bits_a_second(timing: Timing, bits: u32, ms: u16) -> u32
     requires some { 1 ≤ ms }

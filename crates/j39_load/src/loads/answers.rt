@@ -1,7 +1,8 @@
 //! What is asked of the bus by flows that answer requests.
 ghost use Rattle.std.specs.Prelude.{◌≡◌, ◌≤◌, ◌<◌, ◌^◌, IfSome, length};
 ghost use Rattle.std.specs.Option.{option_and_then};
-ghost use Rattle.j39_load.specs.AnswerStreams.{answered_within as time_to_answer, answers_want, askers_of, broadcast_for};
+ghost use Rattle.j39_load.specs.AnswerStreams.{answered_within as time_to_answer, answers_want, askers_of};
+ghost use Rattle.j39_load.specs.AnswerStreams.{broadcast_for};
 ghost use Rattle.j39_load.specs.AnswerStreams.{frames_for, late_for, messages_for, wanted_for};
 ghost use Rattle.j39_load.specs.SoundLoads.{AreSound, AreSoundMessages, IsSoundBroadcast};
 ghost use Rattle.j39_load.specs.inside.FewFrames.{HaveFewFrames};

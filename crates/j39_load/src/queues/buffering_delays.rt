@@ -211,7 +211,8 @@ pub(crate) fn buffering_delays_of(
 ) -> Result<BufferingDelays, AllocError>
     requires fit { All AreSoundIfAny all.now }
     requires few { length all.now ≤ 2000 }
-    ensures buffering { IfOk result (λ buffering_delays. IsBuffering timing ends all.now (buffering_of buffering_delays)) }
+    ensures buffering { IfOk result (λ buffering_delays. IsBuffering timing ends all.now
+        (buffering_of buffering_delays)) }
     ensures fit { IfOk result AreFitBufferingDelays }
 {
     let demands = demands_of(alloc, all)?;

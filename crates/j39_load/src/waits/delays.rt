@@ -1,5 +1,6 @@
 //! How long the frames of the flows of a plan wait.
-ghost use Rattle.std.specs.Prelude.{◌≡◌, ◌≢◌, ◌≤◌, ◌<◌, ◌^◌, ◌+◌, ◌++◌, [], All, length, IfOk, IfNone, IfSome, OnOk, OnErr, Some};
+ghost use Rattle.std.specs.Prelude.{◌≡◌, ◌≢◌, ◌≤◌, ◌<◌, ◌^◌, ◌+◌, ◌++◌, [], All, length, IfOk, IfNone, IfSome, OnOk};
+ghost use Rattle.std.specs.Prelude.{OnErr, Some};
 ghost use Rattle.std.specs.Option.{ForSome};
 ghost use Rattle.j39_load.specs.AnyQueues.{IsBuffering};
 ghost use Rattle.j39_load.specs.Asked.{frames_asked};
@@ -202,8 +203,10 @@ fn delay_within(
     requires fit { All IsStream streams.now }
     requires few { length streams.now ≤ 2002 }
     requires most { most < 2 ^ 31 }
-    ensures some { IfSome result (IsDelayWithin timing (buffering_of buffering_delays.now).frames flow frames.now most) }
-    ensures none { IfNone result (HasNoneWithin timing (buffering_of buffering_delays.now).frames flow frames.now most) }
+    ensures some { IfSome result (IsDelayWithin timing
+        (buffering_of buffering_delays.now).frames flow frames.now most) }
+    ensures none { IfNone result (HasNoneWithin timing
+        (buffering_of buffering_delays.now).frames flow frames.now most) }
     ensures few { IfSome result (λ bits. bits < 2 ^ 31) }
 {
     let own = frames.stream.jitter + u32::from(frames.stream.bits);
@@ -295,8 +298,8 @@ fn turn_at(turns: &[Option<Turn>], unit: usize) -> Option<Turn>
 }
 
 // Whether messages are wanted no more often than they can be sent: a turn is over within the period, and what waits is
-// announced before the next one is wanted; or, where one request asks for them, a turn is over before the next one can be
-// wanted. Where several do, two may be wanted at once.
+// announced before the next one is wanted; or, where one request asks for them, a turn is over before the next one can
+// be wanted. Where several do, two may be wanted at once.
 fn keeps_up(broadcast: &Broadcast, turn: Turn) -> bool
     requires broadcast { IsSoundBroadcast broadcast.now }
     requires announcement { turn.announcement < 2 ^ 28 }
@@ -349,7 +352,8 @@ fn delay_of(
     requires buffering_delays { AreFitBufferingDelays buffering_delays.now }
     requires turns { AreShortTurns turns.now }
     requires load { IsSoundLoad load.now }
-    ensures { IfOk result (IsDelayBy timing (buffering_of buffering_delays.now) turns.now flow load.now.messages load.now.limit) }
+    ensures { IfOk result
+        (IsDelayBy timing (buffering_of buffering_delays.now) turns.now flow load.now.messages load.now.limit) }
 {
     match &load.messages {
         Messages::Short(frames) => frame_delay(
@@ -380,7 +384,8 @@ impl Loads {
     ) -> Result<Option<Delay>, AllocError>
         requires place { flow < length self.now.flows.items }
         requires buffering_delays { AreFitBufferingDelays buffering_delays.now }
-        requires is { IsBuffering self.now.timing self.now.unplanned_end (frames_asked (asked_in self.now)) (buffering_of buffering_delays.now) }
+        requires is { IsBuffering self.now.timing self.now.unplanned_end (frames_asked (asked_in self.now))
+            (buffering_of buffering_delays.now) }
         requires turns { AreTurns self.now.timing (asked_in self.now) (buffering_of buffering_delays.now) turns.now }
         requires short { AreShortTurns turns.now }
         ensures { IfOk result (HasDelay self.now.timing (asked_in self.now) flow) }

@@ -81,7 +81,8 @@ impl Loads {
     ) -> Result<Option<Turn>, AllocError>
         requires buffering_delays { AreFitBufferingDelays buffering_delays.now }
         requires unit { unit < length self.now.units.items }
-        ensures turn { IfOk result (IsTurn self.now.timing (asked_in self.now) (buffering_of buffering_delays.now) unit) }
+        ensures turn { IfOk result (IsTurn self.now.timing (asked_in self.now)
+            (buffering_of buffering_delays.now) unit) }
         ensures short { IfOk result IsShortTurn }
     {
         let Some(load) = &self.units[unit] else {

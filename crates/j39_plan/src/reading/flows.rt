@@ -135,7 +135,8 @@ fn known_period(
     table: Table,
     version: Version,
 ) -> Result<Option<u32>, PlanError>
-    ensures gives { Gives result (since_faults table version (table_view members.now) (since Third (spec.period_rule version (table_view members.now))))
+    ensures gives { Gives result (since_faults table version (table_view members.now)
+        (since Third (spec.period_rule version (table_view members.now))))
         (λ n. n ≡ spec.given_period version (table_view members.now)) }
     ensures some { IfOk result (λ found. IfSome found (λ n. 1 ≤ n)) }
     ensures few { IfOk result (λ found. IfSome found (λ n. n ≤ 65535)) }
@@ -171,7 +172,8 @@ fn known_deadline(
 
 #[tactic(auto, using(j39_toml::proofs::FirstFaults::faults_after))]
 fn known_rhythm(members: &toml::Table, table: Table, version: Version) -> Result<Rhythm, PlanError>
-    ensures { Gives result (known_faults table version (table_view members.now) (spec.pace_rules version (table_view members.now)))
+    ensures { Gives result (known_faults table version (table_view members.now)
+        (spec.pace_rules version (table_view members.now)))
         (λ rhythm. spec.DescribesPace version (table_view members.now) rhythm.pace
         × (rhythm.pause
         ≡ spec.pause_of version (spec.given_period version (table_view members.now)) (table_view members.now))
@@ -278,11 +280,13 @@ impl ReadElement<FlowPlan, PlanFault> for FlowReader<'_> {
 
     ghost data_label = { no_label };
 
-    ghost faults = { λ r i seen. flow_faults r.version (map (λ g. g.label.bytes) r.groups.now) (map (λ u. u.label.bytes) r.units.now) i };
+    ghost faults = { λ r i seen. flow_faults r.version (map (λ g. g.label.bytes) r.groups.now)
+        (map (λ u. u.label.bytes) r.units.now) i };
 
     ghost Grows = { λ _. NeverGrows };
 
-    ghost Describes = { λ r. IsFlowOf r.version (map (λ g. g.label.bytes) r.groups.now) (map (λ u. u.label.bytes) r.units.now) };
+    ghost Describes = { λ r. IsFlowOf r.version (map (λ g. g.label.bytes) r.groups.now)
+        (map (λ u. u.label.bytes) r.units.now) };
 
     #[tactic(auto, using(j39_toml::proofs::FirstFaults::faults_after), unfolding(crate::specs::FlowTables::flow_faults))]
     fn read(

@@ -111,7 +111,8 @@ fn later_keys(
 ) -> Result<LaterKeys, PlanError>
     requires { length ≤ message_bytes }
     ensures gives { Gives result (known_faults table version (table_view members.now) (later_rules length))
-        (λ later. (later.private ≡ private_of version (table_view members.now)) × (later.most ≡ most_of version length (table_view members.now))
+        (λ later. (later.private ≡ private_of version (table_view members.now))
+        × (later.most ≡ most_of version length (table_view members.now))
         × (later.every ≡ every_of version (table_view members.now))
         × (option_map (λ t. table_view t.now) later.when ≡ when_table version (table_view members.now))) }
     ensures at_least { IfOk result (λ later. length ≤ later.most) }

@@ -136,7 +136,8 @@ fn known_keep_free(members: &toml::Table, version: Version) -> Result<AddressSet
 #[tactic(auto, using(j39_toml::proofs::FirstFaults::faults_after))]
 pub fn head(members: &toml::Table, version: Version) -> Result<AddressSet, PlanError>
     requires { version ≡ version_of (table_view members.now) }
-    ensures gives { Gives result (head_faults (table_view members.now)) (λ s. s ≡ keep_free_of (table_view members.now)) }
+    ensures gives { Gives result (head_faults (table_view members.now))
+        (λ s. s ≡ keep_free_of (table_view members.now)) }
     ensures range { IfOk result (λ s. (a : ℕ) → contains s a ≡ true → in_pool a ≡ true) }
 {
     only_known(members, Table::Top, version, &TOP_KEYS)?;

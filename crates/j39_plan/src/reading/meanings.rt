@@ -67,7 +67,8 @@ fn number_below(limit: u64, name: &str) -> Option<u32>
 
 fn label(value: &Value) -> Option<Label>
     ensures { MatchOption result (option_map_or is_label (as_str (view value.now)) false ≡ false)
-        (λ l. (option_map_or is_label (as_str (view value.now)) false ≡ true) × (as_str (view value.now) ≡ Some l.bytes)) }
+        (λ l. (option_map_or is_label (as_str (view value.now)) false ≡ true)
+        × (as_str (view value.now) ≡ Some l.bytes)) }
 {
     let text = value.as_str()?;
     if !TextKind::Label.takes(text) {
@@ -82,7 +83,8 @@ fn label(value: &Value) -> Option<Label>
 // The raw number that a key of a table of names reports, and the name that its value is.
 fn value_name(limit: u64, name: &str, value: &Value) -> Option<ValueName>
     requires { limit ≤ 2 ^ 32 }
-    ensures { MatchOption result ((is_number_below limit name.now && option_map_or is_label (as_str (view value.now)) false) ≡ false)
+    ensures { MatchOption result ((is_number_below limit name.now
+        && option_map_or is_label (as_str (view value.now)) false) ≡ false)
         (λ n. ((is_number_below limit name.now && option_map_or is_label (as_str (view value.now)) false) ≡ true)
         × (n.raw ≡ digits_value 10 name.now) × (as_str (view value.now) ≡ Some n.name.bytes)) }
 {
@@ -235,7 +237,8 @@ pub fn meaning_keys<'a>(
     code: bool,
     bits: u32,
 ) -> Result<MeaningKeys<'a>, PlanError>
-    ensures gives { Gives result (known_faults table version (table_view members.now) (meaning_rules repeated code bits))
+    ensures gives { Gives result (known_faults table version (table_view members.now)
+        (meaning_rules repeated code bits))
         (DescribesKeys version (table_view members.now)) }
     ensures spn { IfOk result (λ m. IfSome m.spn (λ n. n ≤ spn_most)) }
     ensures named { IfOk result (λ m. IfSome m.names (λ t. names_cause (raw_limit bits) (table_view t.now) ≡ None)) }
@@ -279,7 +282,8 @@ pub fn meaning_of(alloc: Global, meant: MeaningKeys<'_>, bits: u32) -> Result<Me
     requires spn { IfSome meant.spn (λ n. n ≤ spn_most) }
     requires named { IfSome meant.names (λ t. names_cause (raw_limit bits) (table_view t.now) ≡ None) }
     ensures spn { IfOk result (λ m. m.spn ≡ meant.entry.spn) }
-    ensures names { IfOk result (λ m. AreValueNames (unwrap_or (option_map (λ t. table_view t.now) meant.entry.names) no_members) m.values.items) }
+    ensures names { IfOk result (λ m. AreValueNames
+        (unwrap_or (option_map (λ t. table_view t.now) meant.entry.names) no_members) m.values.items) }
 {
     let values = match meant.names {
         Some(names) => value_names(alloc, raw_limit(bits), names)?,

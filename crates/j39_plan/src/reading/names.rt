@@ -39,7 +39,8 @@ fn name_fields(
     index: usize,
     members: &toml::Table,
 ) -> Result<NameFields, PlanError>
-    ensures gives { Gives result (name_faults version index (table_view members.now)) (λ f. f ≡ name_fields_of version (table_view members.now)) }
+    ensures gives { Gives result (name_faults version index (table_view members.now))
+        (λ f. f ≡ name_fields_of version (table_view members.now)) }
     ensures in_range { IfOk result (λ f. first_out f ≡ None) }
 {
     let table = Table::UnitName(index);

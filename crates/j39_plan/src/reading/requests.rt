@@ -61,11 +61,13 @@ impl ReadElement<RequestPlan, PlanFault> for RequestReader<'_> {
 
     ghost data_label = { no_label };
 
-    ghost faults = { λ r i seen. request_faults (map (λ g. g.label.bytes) r.groups.now) (map (λ u. u.label.bytes) r.units.now) i };
+    ghost faults = { λ r i seen. request_faults (map (λ g. g.label.bytes) r.groups.now)
+        (map (λ u. u.label.bytes) r.units.now) i };
 
     ghost Grows = { λ _. NeverGrows };
 
-    ghost Describes = { λ r. IsRequestOf (map (λ g. g.label.bytes) r.groups.now) (map (λ u. u.label.bytes) r.units.now) };
+    ghost Describes = { λ r. IsRequestOf (map (λ g. g.label.bytes) r.groups.now)
+        (map (λ u. u.label.bytes) r.units.now) };
 
     #[tactic(auto, using(j39_toml::proofs::FirstFaults::faults_after), unfolding(crate::specs::RequestTables::request_faults))]
     fn read(

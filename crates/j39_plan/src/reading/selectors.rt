@@ -24,7 +24,8 @@ fn greatest(bits: u32) -> u32
 
 #[tactic(auto, using(j39_toml::proofs::FirstFaults::faults_after), unfolding(crate::specs::SelectorTables::selector_table_faults))]
 fn selector(members: &toml::Table, group: usize) -> Result<Selector, PlanError>
-    ensures { Gives result (selector_table_faults group (table_view members.now)) (DescribesSelector (table_view members.now)) }
+    ensures { Gives result (selector_table_faults group (table_view members.now))
+        (DescribesSelector (table_view members.now)) }
 {
     let table = Table::GroupWhen(group);
     only(members, table, &SELECTOR_KEYS)?;

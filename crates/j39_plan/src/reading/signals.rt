@@ -78,7 +78,8 @@ fn kinds(version: Version) -> TextKind
 #[tactic(auto, unfolding(crate::specs::SignalTables::is_code))]
 fn kind(version: Version, members: &toml::Table, table: Table) -> Result<(Kind, bool), PlanError>
     ensures { Gives result (key_faults table (table_view members.now) (kind_rule version))
-        (λ k. (k.0 ≡ kind_of (text_of (kind_rule version) (table_view members.now))) × (k.1 ≡ is_code version (table_view members.now))) }
+        (λ k. (k.0 ≡ kind_of (text_of (kind_rule version) (table_view members.now)))
+        × (k.1 ≡ is_code version (table_view members.now))) }
 {
     let word = text(members, table, Key::Kind, kinds(version), None)?;
     let kind = kind_of(word);
@@ -221,7 +222,8 @@ fn known_repeated(
     table: Table,
     records: bool,
 ) -> Result<bool, PlanError>
-    ensures gives { Gives result (since_faults table version (table_view members.now) (since Third (repeated_rule records)))
+    ensures gives { Gives result (since_faults table version (table_view members.now)
+        (since Third (repeated_rule records)))
         (λ b. b ≡ repeated_of version (table_view members.now)) }
     ensures only { IfOk result (λ b. records ≡ false → b ≡ false) }
 {
@@ -238,14 +240,17 @@ fn signal<'a>(
     table: Table,
     members: &'a toml::Table,
 ) -> Result<SignalKeys<'a>, PlanError>
-    ensures gives { Gives result (signal_table_faults reader.now.version reader.now.records table (table_view members.now))
-        (λ k. DescribesSignal reader.now.version (table_view members.now) k.signal × DescribesKeys reader.now.version (table_view members.now) k.meant) }
+    ensures gives { Gives result (signal_table_faults reader.now.version reader.now.records table
+        (table_view members.now))
+        (λ k. DescribesSignal reader.now.version (table_view members.now) k.signal
+        × DescribesKeys reader.now.version (table_view members.now) k.meant) }
     ensures label_form { IfOk result (λ k. IsTrue (is_label k.signal.label.bytes)) }
     ensures ranges { IfOk result (λ k. IsSignal k.signal.start k.signal.bits k.signal.step k.signal.offset) }
     ensures divides { IfOk result (λ k. IsDivisor k.signal.per) }
     ensures single { IfOk result (λ k. reader.now.records ≡ false → k.signal.repeated ≡ false) }
     ensures spn { IfOk result (λ k. IfSome k.meant.spn (λ n. n ≤ spn_most)) }
-    ensures named { IfOk result (λ k. IfSome k.meant.names (λ t. names_cause (raw_limit k.signal.bits) (table_view t.now) ≡ None)) }
+    ensures named { IfOk result (λ k. IfSome k.meant.names
+        (λ t. names_cause (raw_limit k.signal.bits) (table_view t.now) ≡ None)) }
 {
     let version = reader.version;
     only_known(members, table, version, &SIGNAL_KEYS)?;

@@ -33,7 +33,8 @@ fn bitrate(members: &toml::Table, version: Version) -> Result<Bitrate, PlanError
     )
 }
 
-// What stands behind the frames that aren't planned: priorities, the gaps of broadcasts, clocks, and the table of errors.
+// What stands behind the frames that aren't planned: priorities, the gaps of broadcasts, clocks, and the table of
+// errors.
 #[derive(Clone, Copy)]
 struct LaterKeys<'a> {
     unplanned_priority: u32,
@@ -46,7 +47,8 @@ struct LaterKeys<'a> {
 
 #[tactic(auto, using(j39_toml::proofs::FirstFaults::faults_after))]
 fn later_keys(members: &toml::Table, version: Version) -> Result<LaterKeys, PlanError>
-    ensures gives { Gives result (known_faults at.Timing version (table_view members.now) (spec.later_timing_rules (table_view members.now)))
+    ensures gives { Gives result (known_faults at.Timing version (table_view members.now)
+        (spec.later_timing_rules (table_view members.now)))
         (λ later. (later.unplanned_priority ≡ spec.unplanned_priority_of version (table_view members.now))
         × (later.transport_priority ≡ spec.transport_priority_of version (table_view members.now))
         × (later.gap ≡ spec.gap_of version (table_view members.now))
@@ -90,7 +92,8 @@ fn later_keys(members: &toml::Table, version: Version) -> Result<LaterKeys, Plan
 
 #[tactic(auto, using(j39_toml::proofs::FirstFaults::faults_after), unfolding(crate::specs::TimingTables::error_table_faults))]
 fn error_rate(members: &toml::Table) -> Result<ErrorRate, PlanError>
-    ensures { Gives result (spec.error_table_faults (table_view members.now)) (spec.DescribesErrorRate (table_view members.now)) }
+    ensures { Gives result (spec.error_table_faults (table_view members.now))
+        (spec.DescribesErrorRate (table_view members.now)) }
 {
     let table = Table::TimingErrors;
     only(members, table, &ERROR_KEYS)?;
@@ -116,7 +119,8 @@ fn errors(inner: Option<&toml::Table>) -> Result<Option<ErrorRate>, PlanError>
 #[tactic(auto, using(j39_toml::proofs::FirstFaults::faults_after), unfolding(crate::specs::TimingTables::timing_table_faults))]
 fn bus(members: &toml::Table, version: Version) -> Result<Timing, PlanError>
     requires { is_known Third version ≡ true }
-    ensures { Gives result (spec.timing_table_faults version (table_view members.now)) (spec.DescribesBus version (table_view members.now)) }
+    ensures { Gives result (spec.timing_table_faults version (table_view members.now))
+        (spec.DescribesBus version (table_view members.now)) }
 {
     only_known(members, Table::Timing, version, &TIMING_KEYS)?;
     let bitrate = bitrate(members, version)?;

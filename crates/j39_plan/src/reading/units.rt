@@ -124,7 +124,8 @@ fn silent_stays(index: usize, claims: bool, name: Name) -> Result<(), PlanError>
 
 #[tactic(auto, using(j39_toml::proofs::FirstFaults::faults_after), unfolding(crate::specs::UnitTables::unit_table_faults))]
 fn unit(version: Version, index: usize, members: &toml::Table) -> Result<UnitPlan, PlanError>
-    ensures { Gives result (unit_table_faults version index (table_view members.now)) (DescribesUnit version (table_view members.now)) }
+    ensures { Gives result (unit_table_faults version index (table_view members.now))
+        (DescribesUnit version (table_view members.now)) }
 {
     let table = Table::Unit(index);
     only_known(members, table, version, &UNIT_KEYS)?;

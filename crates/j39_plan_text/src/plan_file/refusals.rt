@@ -1,6 +1,7 @@
 //! Why a plan file is refused.
 ghost use Rattle.std.specs.Prelude.{◌≡◌, ◌++◌, ℕ, List, OnOk, IfOk};
-ghost use Rattle.j39_plan_text.specs.PlanText.{IsRefusalLine, RefusesChoices, choices_line, fault_line, key_text, table_text};
+ghost use Rattle.j39_plan_text.specs.PlanText.{IsRefusalLine, RefusesChoices, choices_line, fault_line, key_text};
+ghost use Rattle.j39_plan_text.specs.PlanText.{table_text};
 ghost use Rattle.j39_stream.specs.CommandEnds.{PutsText};
 
 use j39_plan::{FileError, Key, PlanError, PlanFault, Table};

@@ -2,7 +2,8 @@
 ghost use Rattle.std.specs.Prelude.{◌≡◌, ◌++◌, ◌==◌, ◌&&◌, OnOk};
 ghost use Rattle.std.specs.List.{list_any};
 ghost use Rattle.j39_load.specs.LineLists.{lines_of_each};
-ghost use Rattle.j39_plan_text.specs.ChoiceLines.{alternative_line, choices_lines, items_lines, list_lines, lists_lines, named_line};
+ghost use Rattle.j39_plan_text.specs.ChoiceLines.{alternative_line, choices_lines, items_lines, list_lines};
+ghost use Rattle.j39_plan_text.specs.ChoiceLines.{lists_lines, named_line};
 
 use super::values::write_word;
 use crate::each::{WriteLines, write_each};

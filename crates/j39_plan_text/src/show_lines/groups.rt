@@ -2,8 +2,10 @@
 ghost use Rattle.std.specs.Prelude.{◌≡◌, ◌++◌, OnOk};
 ghost use Rattle.std.specs.List.{slice_get};
 ghost use Rattle.std.specs.Option.{option_copied};
-ghost use Rattle.j39_plan_text.specs.ShowText.{group_form_lines, group_head_lines, kind_text, signal_meaning_lines as meaning_lines};
-ghost use Rattle.j39_plan_text.specs.ShowText.{signal_place_lines, signal_scale_lines, signal_value_lines as signal_lines, when_lines};
+ghost use Rattle.j39_plan_text.specs.ShowText.{group_form_lines, group_head_lines, kind_text};
+ghost use Rattle.j39_plan_text.specs.ShowText.{signal_meaning_lines as meaning_lines};
+ghost use Rattle.j39_plan_text.specs.ShowText.{signal_place_lines, signal_scale_lines};
+ghost use Rattle.j39_plan_text.specs.ShowText.{signal_value_lines as signal_lines, when_lines};
 
 use super::values::{
     write_front, write_number, write_optional, write_text, write_truth, write_word,

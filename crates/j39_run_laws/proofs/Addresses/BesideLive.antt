@@ -207,7 +207,8 @@ module _ (plan joined : Plan) (ss : List UnitPlan) (clean : Clean plan) (come : 
             sender (alone_still x.value.sender (flow_at (λ y. IsAloneInPlan plan y.sender) ((parts_of plan clean).senders_alone come.live) f x.value is)
             (λ v claims same_address. claims.sender f x.value x.value_is (sym same_address)))
         | inr (r, to, receiver) ↦
-            receiver (alone_still r (flow_at (λ y. (v : ℕ) → y.to ≡ One v → IsAloneInPlan plan v) ((parts_of plan clean).receivers_alone come.live) f x.value is r to)
+            receiver (alone_still r (flow_at (λ y. (v : ℕ) → y.to ≡ One v → IsAloneInPlan plan v)
+            ((parts_of plan clean).receivers_alone come.live) f x.value is r to)
             (λ v claims same_address. claims.receiver f x.value r x.value_is to (sym same_address)))
       ]
 

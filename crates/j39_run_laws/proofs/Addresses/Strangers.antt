@@ -344,7 +344,8 @@ module _ (plan joined : Plan) (ss : List UnitPlan) (come : HasStrangers plan joi
   stays_beside u inside (stays, inr fixed) =
       let in_u : u < length (units_of joined) = omega (arith, inside, count_units) in
       let fixed_u : is_arbitrary (unit_at (units_of joined) u).name ≡ false = ap is_arbitrary (named u inside) ∙ fixed in
-      let fixed_v : (v : ℕ) → (unit_at (units_of joined) v).name < (unit_at (units_of joined) u).name → is_arbitrary (unit_at (units_of joined) v).name ≡ false =
+      let fixed_v : (v : ℕ) → (unit_at (units_of joined) v).name < (unit_at (units_of joined) u).name
+      → is_arbitrary (unit_at (units_of joined) v).name ≡ false =
       λ v smaller. fixed_below (unit_at (units_of joined) v).name (unit_at (units_of joined) u).name smaller (names_in_range joined u in_u) fixed_u in
       record {
         first = λ v in_v smaller same.

@@ -140,7 +140,19 @@ module _ (units : List PlannedUnit) (clean : IsClean units) (u v : ℕ) (in_u : 
         → Turn units v s (AddressClaimed (Claim a)) says new
     loses a own says new has below (inl (b, arbitrary, free, said, is)) =
         turn_with a own says new (ap (λ t. t.on) is) (ap (λ t. t.notes) is)
-        (inr (b, said, ap (λ t. t.address) is, record { fixed = λ fixed. absurd (true≢false (sym arbitrary ∙ fixed)); unkept = λ _. free.unkept; planned = inr free.pool; silent = λ silent. absurd (true≢false (sym claims ∙ silent)) }))
+        (inr (
+          b,
+          said,
+          ap (λ t. t.address) is,
+          record {
+            fixed = λ fixed. absurd
+                (true≢false (sym arbitrary ∙ fixed));
+            unkept = λ _. free.unkept;
+            planned = inr free.pool;
+            silent = λ silent. absurd
+                (true≢false (sym claims ∙ silent));
+          },
+        ))
     loses a own says new has below (inr (none, said, is)) =
         let n : ℕ = (unit_at units u).name in
         absurd (elim (cases_Bool (is_arbitrary (unit_at units v).name)) [

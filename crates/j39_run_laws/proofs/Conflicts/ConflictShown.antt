@@ -37,7 +37,8 @@ use Rattle.j39_run_laws.proofs.Runs.Conditions.{is_unit, none_unknown, not_refus
 
 module _ (stations : Stations) (claims : Undelivered) (u : ℕ) (items : List Item) where
   not_reported : (s t : ℕ) → is_other_on stations u t ≡ false → sent_to_others stations claims u items s t ≡ claims s t
-  not_reported s t deaf = cond-false (eqb s u && is_other_on stations u t) (claims s t ++ items) (claims s t) (and_right (eqb s u) (is_other_on stations u t) deaf)
+  not_reported s t deaf = cond-false (eqb s u && is_other_on stations u t) (claims s t ++ items) (claims s t)
+      (and_right (eqb s u) (is_other_on stations u t) deaf)
 
   is_deaf : (t : ℕ) → (t ≢ u → (stations t).on ≡ false) → is_other_on stations u t ≡ false
   is_deaf t off = elim (cases_eq t u) [
@@ -136,7 +137,10 @@ module _ (plan : Plan) (l s : ℕ) (unit_l : is_unit plan l ≡ true) (unit_s : 
     not_from_true _ unit_l,
     (
       refl,
-      (and_right (not plan.live) (is_a_transfer_open (count_of plan) all_off) (not_from_true _ (none_open (count_of plan) all_off (λ u. refl) (λ u v. refl))), tt),
+      (
+        and_right (not plan.live) (is_a_transfer_open (count_of plan) all_off) (not_from_true _ (none_open (count_of plan) all_off (λ u. refl) (λ u v. refl))),
+        tt,
+      ),
     ),
   )
 
@@ -181,7 +185,8 @@ module _ (plan : Plan) (l s : ℕ) (unit_l : is_unit plan l ≡ true) (unit_s : 
         on_s = ap (λ (x : ClaimState). x.on) (changed_here w.stations s (started winner));
         off = λ t not_l not_s. off t not_s not_l;
         list =
-            one_stated new mid s items l apart off on_l ∙ ap (λ (xs : List Item). xs ++ items) (nothing (eqb l s) (w.claims s l) (is.stated s l)) ∙ first_said winner claims_s;
+            one_stated new mid s items l apart off on_l ∙ ap (λ (xs : List Item). xs ++ items)
+            (nothing (eqb l s) (w.claims s l) (is.stated s l)) ∙ first_said winner claims_s;
         stated = λ x y elsewhere. no_other_stated new mid s items l apart off x y elsewhere ∙ nothing (eqb y s) (w.claims x y) (is.stated x y);
       }
 

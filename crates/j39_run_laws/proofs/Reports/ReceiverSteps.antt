@@ -29,7 +29,8 @@ use Rattle.j39_run_laws.proofs.Reports.Exchanges.{Pair, pair_of, Message, messag
 use Rattle.j39_run_laws.proofs.Reports.ExchangeSteps.{asides_unacknowledging, asides_answer, answers_answering, acknowledged_reported, lost_keeps, late_keeps}
 use Rattle.j39_run_laws.proofs.Reports.ExchangeTaken as taking
 use Rattle.j39_run_laws.proofs.Reports.ExchangeTaken.{ReportsShort, TakesOn, Completes, short_taken}
-use Rattle.j39_run_laws.proofs.Reports.Reporting.{reported_beside, reported_none, reported_here, reported_elsewhere, reported_message, same_messages, message_after}
+use Rattle.j39_run_laws.proofs.Reports.Reporting.{reported_beside, reported_none, reported_here, reported_elsewhere, reported_message, same_messages}
+use Rattle.j39_run_laws.proofs.Reports.Reporting.{message_after}
 use Rattle.j39_run_laws.proofs.Reports.Reporting.{AckedAt, acked_now}
 use Rattle.j39_run_laws.proofs.Reports.TransferInvariant.{TransferInvariant, reports_beside, ExchangesBy, back_taken, answered}
 

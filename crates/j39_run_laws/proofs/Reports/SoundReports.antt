@@ -31,7 +31,8 @@ use Rattle.j39_run_laws.proofs.Reports.Reporting.{AckedAt}
 use Rattle.j39_run_laws.proofs.Reports.SenderSteps.{begin_keeps, send_keeps, emit_keeps, late_sender_keeps, rest_keeps}
 use Rattle.j39_run_laws.proofs.Reports.TransferInvariant.{TransferInvariant}
 use Rattle.j39_run_laws.proofs.Runs.Changed.{changed_elsewhere, changed_here}
-use Rattle.j39_run_laws.proofs.Runs.SwitchedOff.{either_cases, nothing_dropped, sessions_each, stage_left, targets_less, targets_none, targets_same, unless_live}
+use Rattle.j39_run_laws.proofs.Runs.SwitchedOff.{either_cases, nothing_dropped, sessions_each, stage_left, targets_less, targets_none, targets_same}
+use Rattle.j39_run_laws.proofs.Runs.SwitchedOff.{unless_live}
 use Rattle.j39_run_laws.proofs.Runs.Conditions.{is_unit, none_refuses, units_known}
 use Rattle.j39_run_laws.proofs.Runs.Units.{AreUnitsOn, AreBetweenUnits, units_all, units_on, without_lists_empty, stated_between}
 

@@ -183,7 +183,8 @@ module _ (plan : Plan) (distinct : AreNamesDistinct (units_of plan)) (stations :
         ap (λ o. last_said o rest) (sym none) ∙ ap (last_said (get (stations v).notes name)) (sym (pair_here claims u v rest)) ∙ is in
         inv.row u v apart on_x on_y a (ap (last_said (get (stations v).notes name)) list ∙ heard_anyway (get (stations v).notes name) item rest a left))
         (λ x y elsewhere apart on_x on_y a is.
-        inv.row x y apart on_x on_y a (ap (last_said (get (stations y).notes (unit_at (units_of plan) x).name)) (sym (pair_elsewhere claims u v rest x y elsewhere)) ∙ is));
+        inv.row x y apart on_x on_y a (ap (last_said (get (stations y).notes (unit_at (units_of plan) x).name))
+        (sym (pair_elsewhere claims u v rest x y elsewhere)) ∙ is));
   }
     where
       heard_anyway : (noted : Option ℕ) (i : Item) (items : List Item) (a : ℕ) → last_said None items ≡ Some a → last_said noted (i ∷ items) ≡ Some a
@@ -224,11 +225,13 @@ module _ (plan : Plan) (distinct : AreNamesDistinct (units_of plan)) (stations :
         elim (cases_eq y v) [
           | inl same ↦
               let moved : last_said (get (changed stations v new v).notes (unit_at (units_of plan) x).name) (changed_pair claims u v rest x v) ≡ Some a =
-              subst (λ k. last_said (get (changed stations v new k).notes (unit_at (units_of plan) x).name) (changed_pair claims u v rest x k) ≡ Some a) same is in
+              subst (λ k. last_said (get (changed stations v new k).notes (unit_at (units_of plan) x).name) (changed_pair claims u v rest x k)
+              ≡ Some a) same is in
               ap (λ (s : ClaimState). s.address) at_x
               ∙ inv.row x v x_other was_on on_v a
               (known_by_v x x_other was_on
-              ∙ ap (λ (s : ClaimState). last_said (get s.notes (unit_at (units_of plan) x).name) (changed_pair claims u v rest x v)) (sym (changed_here stations v new))
+              ∙ ap (λ (s : ClaimState). last_said (get s.notes (unit_at (units_of plan) x).name) (changed_pair claims u v rest x v))
+              (sym (changed_here stations v new))
               ∙ moved)
           | inr other ↦
               let at_y : changed stations v new y ≡ stations y = changed_elsewhere stations v new y other in
@@ -257,7 +260,8 @@ module _ (plan : Plan) (distinct : AreNamesDistinct (units_of plan)) (stations :
     stated_say : (say : Say) → says ≡ Some say → claimed_by say ≡ new.address
         → (x y : ℕ) → RowAt plan (changed stations v new) (sent_to_others (changed stations v new) (changed_pair claims u v rest) v (answer_items says)) x y
     stated_say say said holds =
-        subst (λ o. (x y : ℕ) → RowAt plan (changed stations v new) (sent_to_others (changed stations v new) (changed_pair claims u v rest) v (answer_items o)) x y)
+        subst (λ o. (x y : ℕ) → RowAt plan (changed stations v new)
+        (sent_to_others (changed stations v new) (changed_pair claims u v rest) v (answer_items o)) x y)
         (sym said)
         (stated_rows plan (changed stations v new) (changed_pair claims u v rest) v (AddressClaimed say ∷ [])
         (λ noted. holds ∙ sym (ap (λ (s : ClaimState). s.address) (changed_here stations v new))) mid_rows)
@@ -268,7 +272,8 @@ module _ (plan : Plan) (distinct : AreNamesDistinct (units_of plan)) (stations :
       silent = given plan stations claims inv.silent u v item rest list distinct unit_u claiming says new r;
       row = elim (r.outcome) [
         | inl silent ↦
-            subst (λ o. (x y : ℕ) → RowAt plan (changed stations v new) (sent_to_others (changed stations v new) (changed_pair claims u v rest) v (answer_items o)) x y)
+            subst (λ o. (x y : ℕ) → RowAt plan (changed stations v new)
+            (sent_to_others (changed stations v new) (changed_pair claims u v rest) v (answer_items o)) x y)
             (sym silent.0) (unsent_rows plan (changed stations v new) (changed_pair claims u v rest) v (still_rows silent.1))
         | inr (inl repeats) ↦ stated_say repeats.say repeats.said repeats.holds
         | inr (inr loses) ↦ stated_say loses.say loses.said loses.holds

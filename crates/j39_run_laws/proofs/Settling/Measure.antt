@@ -54,8 +54,10 @@ load_stated change request say noted items held new None is =
     let nothing : items ++ [] ≡ items = append-nil items in
     rw nothing (omega (arith, load_moved change request say noted items held new))
 load_stated change request say noted items held new (Some said) is =
-    let more : changes noted (items ++ AddressClaimed said ∷ []) new ≤ changes noted items held + differ held new = changes-stated items noted held new said is in
-    let times : change * changes noted (items ++ AddressClaimed said ∷ []) new ≤ change * (changes noted items held + differ held new) = mul-le-mul_left change more in
+    let more : changes noted (items ++ AddressClaimed said ∷ []) new
+    ≤ changes noted items held + differ held new = changes-stated items noted held new said is in
+    let times : change * changes noted (items ++ AddressClaimed said ∷ []) new
+    ≤ change * (changes noted items held + differ held new) = mul-le-mul_left change more in
     let heavier : hefts request say (items ++ AddressClaimed said ∷ []) ≡ hefts request say items + hefts request say (AddressClaimed said ∷ []) =
     hefts-append request say items (AddressClaimed said ∷ []) in
     omega arith

@@ -76,7 +76,8 @@ module _ (c : PlannedUnit) (s : ClaimState) (unclashed : IsUnclashed c.name s) (
 
   -- what it then is, where it has noted a
   response_with : (a : ℕ) (says : Option Say) (new is : ClaimState) → new ≡ is → is.on ≡ s.on → is.notes ≡ insert s.notes n a → IsUnclashed c.name is
-      → SaysNothing s says is ⊎ (Repeats c s n (AddressClaimed (Claim a)) says is ⊎ Loses c s n (AddressClaimed (Claim a)) says is) → Response c s n (AddressClaimed (Claim a)) says new
+      → SaysNothing s says is ⊎ (Repeats c s n (AddressClaimed (Claim a)) says is ⊎ Loses c s n (AddressClaimed (Claim a)) says is)
+      → Response c s n (AddressClaimed (Claim a)) says new
   response_with a says new is same on notes clear outcome = subst (Response c s n (AddressClaimed (Claim a)) says) (sym same) (record {
     on = on;
     unclashed = clear;
@@ -91,7 +92,8 @@ module _ (c : PlannedUnit) (s : ClaimState) (unclashed : IsUnclashed c.name s) (
   lost_to a says new say held smaller said holds =
       record { say = say; said = said; holds = holds; smaller = smaller; lost = a; cause = refl; unnoted = unclashed.unnoted n a smaller held }
 
-  loses : (a : ℕ) (says : Option Say) (new : ClaimState) → s.address ≡ Some a → n < c.name → IsLost c s n a says new → Response c s n (AddressClaimed (Claim a)) says new
+  loses : (a : ℕ) (says : Option Say) (new : ClaimState) → s.address ≡ Some a → n < c.name → IsLost c s n a says new
+      → Response c s n (AddressClaimed (Claim a)) says new
   loses a says new held smaller (inl (b, arbitrary, free, said, is)) =
       response_with a says new (record (noted s n a) { address = Some b }) is refl refl
       (record { unnoted = λ m x below holds found. free.unnoted m (found ∙ sym holds) })
@@ -101,7 +103,8 @@ module _ (c : PlannedUnit) (s : ClaimState) (unclashed : IsUnclashed c.name s) (
       (record { unnoted = λ m x below holds found. absurd (cc) })
       (inr (inr (lost_to a says (record (noted s n a) { address = None }) Cannot held smaller said refl)))
 
-  claimed : (a : ℕ) (says : Option Say) (new : ClaimState) → Answers c s n (AddressClaimed (Claim a)) says new → Response c s n (AddressClaimed (Claim a)) says new
+  claimed : (a : ℕ) (says : Option Say) (new : ClaimState) → Answers c s n (AddressClaimed (Claim a)) says new
+      → Response c s n (AddressClaimed (Claim a)) says new
   claimed a says new =
       claim_cases c s n a says new (Response c s n (AddressClaimed (Claim a)) says new)
       (loses a says new)

@@ -153,7 +153,11 @@ after_sends (Some s) u p y is = is
 pub open_is_sent : (o : Option Outgoing) (t : ℕ) (pair : Pair) → Exchange (message_to o t) pair → is_open_at pair.receiver ≡ true → SendsTo o t
 open_is_sent None t pair e is = absurd (true≢false (sym is ∙ e.closed))
 open_is_sent (Some s) t pair e is =
-    elim (is_among s.targets t) as (λ b. Exchange (message_for b s) pair → b ≡ true) [ true ↦ λ _. refl | false ↦ λ idle. absurd (true≢false (sym is ∙ idle.closed)) ] e
+    elim (is_among s.targets t) as (λ b. Exchange (message_for b s) pair → b ≡ true) [
+      | true ↦ λ _. refl
+      | false ↦ λ idle. absurd
+          (true≢false (sym is ∙ idle.closed))
+    ] e
 
 abbrev pub Announces : Packet → Type 0
 Announces (Rts size limit pgn) = Unit {0}

@@ -54,7 +54,8 @@ use Rattle.j39_run_laws.proofs.Runs.Units.{units_all}
 use Rattle.j39_run_laws.proofs.Runs.WiredItems.{AreAll, all_added, all_dropped, all_less, all_more}
 use Rattle.j39_run_laws.proofs.Addresses.Notes.{reacts_on}
 use Rattle.j39_run_laws.proofs.Transfers.Accounted.{AreOnStill, IsSettledFor, AreSettledFor, accounted_left, ends_left, ends_still, on_still, settled_left}
-use Rattle.j39_run_laws.proofs.Transfers.Accounted.{SendsTo, IsAccounted, AreAccounted, AreEndsOn, AllAccounted, SendMore, send_more, still_accounted, after_sends}
+use Rattle.j39_run_laws.proofs.Transfers.Accounted.{SendsTo, IsAccounted, AreAccounted, AreEndsOn, AllAccounted, SendMore, send_more, still_accounted}
+use Rattle.j39_run_laws.proofs.Transfers.Accounted.{after_sends}
 use Rattle.j39_run_laws.proofs.Transfers.Accounted.{open_is_sent, replying, announced_to, answers_accounted, reacted_accounted, data_of_sender}
 use Rattle.j39_run_laws.proofs.Transfers.Accounted.{timeout_of_sender, announcement_of_sender, rested_accounted}
 use Rattle.j39_run_laws.proofs.Transfers.FitSteps.{receiver_answers}
@@ -177,7 +178,8 @@ module _ (plan : Plan) (w : World) (inv : TransferInvariant plan w) (old : AllAc
 
     settled_still : (plan.live ≡ false → SettledThen) → SettledThen
     settled_still unless s t = elim (cases_Bool plan.live) [
-      | inl live ↦ all_weaker (IsSettledFor plan.live w.stations w.claims s t) (IsSettledFor plan.live stations claims s t) (of_item live) (w.wire s t) (old.alone s t)
+      | inl live ↦ all_weaker (IsSettledFor plan.live w.stations w.claims s t) (IsSettledFor plan.live stations claims s t) (of_item live) (w.wire s t)
+          (old.alone s t)
       | inr quiet ↦ unless quiet s t
     ]
       where
@@ -193,7 +195,8 @@ module _ (plan : Plan) (w : World) (inv : TransferInvariant plan w) (old : AllAc
     -- of such a plan none lies while a claim is undelivered
     given_settled : (u v : ℕ) → ltb 0 (length (w.claims u v)) ≡ true → SettledThen
     given_settled u v some = settled_still (λ quiet s t.
-        all_weaker (IsSettledFor plan.live w.stations w.claims s t) (IsSettledFor plan.live stations claims s t) (of_item quiet s t) (w.wire s t) (old.alone s t))
+        all_weaker (IsSettledFor plan.live w.stations w.claims s t) (IsSettledFor plan.live stations claims s t) (of_item quiet s t) (w.wire s t)
+        (old.alone s t))
       where
         never : w.claims u v ≡ [] → ⊥
         never empty = (let none : ltb 0 (length {A = Item} []) ≡ true = subst (λ (items : List Item). ltb 0 (length items) ≡ true) empty some in cc none)
@@ -285,7 +288,8 @@ module _ (plan : Plan) (w : World) (inv : TransferInvariant plan w) (old : AllAc
       ] in
       let also = reacted_accounted now v u (w.sessions v) p (keeps v) in
       let all : AllByRecursion (IsAccounted now v u) (map wired.Packet (replies ++ reacted)) =
-      subst (AllByRecursion (IsAccounted now v u)) (sym (map-append wired.Packet replies reacted)) (all-append (IsAccounted now v u) (map wired.Packet replies) _ answered also) in
+      subst (AllByRecursion (IsAccounted now v u)) (sym (map-append wired.Packet replies reacted))
+      (all-append (IsAccounted now v u) (map wired.Packet replies) _ answered also) in
       record {
         wire = all_more (IsAccounted now) (changed_pair w.wire u v rest)
             (λ s t. still_accounted w.sessions now keeps s t (changed_pair w.wire u v rest s t) (less u v (wired.Packet p) rest is s t)) v u
@@ -299,14 +303,26 @@ module _ (plan : Plan) (w : World) (inv : TransferInvariant plan w) (old : AllAc
       → AllAccounted plan new
   take_accounted windows u v [] is new never = absurd never
   take_accounted windows u v (wired.Short bytes ∷ rest) is new e =
-      subst (AllAccounted plan) (sym e) (record { wire = less u v (wired.Short bytes) rest is; alone = less_settled u v (wired.Short bytes) rest is; ends = old.ends })
-  take_accounted windows u v (wired.Packet p ∷ rest) is new (reports, reported, e) = subst (AllAccounted plan) (sym e) (packet_accounted windows u v p rest reports is)
+      subst (AllAccounted plan) (sym e) (record {
+        wire = less u v (wired.Short bytes) rest is;
+        alone = less_settled u v
+            (wired.Short bytes) rest is;
+        ends = old.ends;
+      })
+  take_accounted windows u v (wired.Packet p ∷ rest) is new (reports, reported, e) = subst (AllAccounted plan) (sym e)
+      (packet_accounted windows u v p rest reports is)
   take_accounted windows u v (wired.Alone f bytes ∷ rest) is new e =
-      subst (AllAccounted plan) (sym e) (record { wire = less u v (wired.Alone f bytes) rest is; alone = less_settled u v (wired.Alone f bytes) rest is; ends = old.ends })
+      subst (AllAccounted plan) (sym e) (record {
+        wire = less u v (wired.Alone f bytes) rest is;
+        alone = less_settled u v
+            (wired.Alone f bytes) rest is;
+        ends = old.ends;
+      })
 
   lose_accounted : (u v : ℕ) (list : List Wired) → w.wire u v ≡ list → (new : World) → LostFrom w u v list new → AllAccounted plan new
   lose_accounted u v [] is new never = absurd never
-  lose_accounted u v (item ∷ rest) is new e = subst (AllAccounted plan) (sym e) (record { wire = less u v item rest is; alone = less_settled u v item rest is; ends = old.ends })
+  lose_accounted u v (item ∷ rest) is new e = subst (AllAccounted plan) (sym e)
+      (record { wire = less u v item rest is; alone = less_settled u v item rest is; ends = old.ends })
 
   late_receiver_accounted : (windows : List ℕ) (u v : ℕ) → is_open_at (w.receivers v u) ≡ true → AllAccounted plan (receiver_timed_out windows w u v)
   late_receiver_accounted windows u v is =

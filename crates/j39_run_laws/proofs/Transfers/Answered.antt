@@ -242,7 +242,8 @@ module _ (plan : Plan) (u v : ℕ) (o : Outgoing) (before : List Begun) (apart :
         let sends : flow.sender ≡ v → SendsOther (Some begun) u o.pgn = spares flow refl in
         subst IsAnswering (sym e)
         (others_send flow.sender (Some begun) begun.targets (first_item flow bytes) other sends
-        (λ same among. says_beside (Some begun) u o.pgn (sends same) (first_item flow bytes) (says_first plan flow.sender begun planned u among flow bytes refl refl))
+        (λ same among. says_beside (Some begun) u o.pgn (sends same) (first_item flow bytes)
+        (says_first plan flow.sender begun planned u among flow bytes refl refl))
         (begins (count_of plan) w f flow bytes) refl refl refl refl)
 
     -- a frame is sent alone, by whomever
@@ -253,7 +254,8 @@ module _ (plan : Plan) (u v : ℕ) (o : Outgoing) (before : List Begun) (apart :
         let targets : List ℕ = targets_of (count_of plan) w.stations flow.sender flow.to in
         let more : (Beside : Wired → Type 0) → Beside item → (s t : ℕ) → GrownBy Beside (w.wire s t) (added w.wire flow.sender targets item s t) =
         λ Beside beside s t. cond_both (eqb s flow.sender && is_among targets t) (w.wire s t ++ item ∷ []) (w.wire s t)
-        (λ (list : List Wired). GrownBy Beside (w.wire s t) list) (λ _. (item ∷ [], (beside, tt), refl)) (λ _. not_grown Beside (w.wire s t) (w.wire s t) refl) in
+        (λ (list : List Wired). GrownBy Beside (w.wire s t) list) (λ _. (item ∷ [], (beside, tt), refl))
+        (λ _. not_grown Beside (w.wire s t) (w.wire s t) refl) in
         subst IsAnswering (sym e) (record {
           stage = now.stage;
           session = now.session;
@@ -288,7 +290,8 @@ module _ (plan : Plan) (u v : ℕ) (o : Outgoing) (before : List Begun) (apart :
           stage = then;
           session = changed_here w.sessions u (Some (at_stage then));
           other =
-              subst (λ (x : Option Outgoing). SendsOther x u o.pgn) (sym (changed_elsewhere w.sessions u (Some (at_stage then)) v (λ e. apart (sym e)))) now.other;
+              subst (λ (x : Option Outgoing). SendsOther x u o.pgn)
+              (sym (changed_elsewhere w.sessions u (Some (at_stage then)) v (λ e. apart (sym e)))) now.other;
           way = record {
             coming = way.coming ++ item ∷ [];
             answering = way.answering;
@@ -370,7 +373,8 @@ module _ (plan : Plan) (u v : ℕ) (o : Outgoing) (before : List Begun) (apart :
         (subst (λ (zs : List Wired). Holds (IsBesideBack o.pgn) zs way.answering) (sym (pair_here w.wire v u rest)) holds)
 
     abbrev KeepsLost : ℕ → ℕ → Type 0
-    KeepsLost x y = (item : Wired) (rest : List Wired) (is : w.wire x y ≡ item ∷ rest) → SparesBetween plan w u v (Lose x y) → IsAnswering (lost x y item rest is)
+    KeepsLost x y = (item : Wired) (rest : List Wired) (is : w.wire x y ≡ item ∷ rest) → SparesBetween plan w u v (Lose x y)
+        → IsAnswering (lost x y item rest is)
 
     lost_keeps : (x y : ℕ) → KeepsLost x y
     lost_keeps =

@@ -329,7 +329,8 @@ module _ (plan : Plan) (u v : ℕ) (o : Outgoing) (before : List Begun) (apart :
         → (new : World) → TakenFrom windows w x y list new → IsAnswering new
     take_keeps windows some long x y [] is new never = absurd never
     take_keeps windows some long x y (wired.Short bytes ∷ rest) is new e = subst IsAnswering (sym e) (short_keeps x y bytes rest is)
-    take_keeps windows some long x y (wired.Packet p ∷ rest) is new (rs, stated, e) = subst IsAnswering (sym e) (packet_keeps windows some long x y p rest is rs stated)
+    take_keeps windows some long x y (wired.Packet p ∷ rest) is new (rs, stated, e) = subst IsAnswering (sym e)
+        (packet_keeps windows some long x y p rest is rs stated)
     take_keeps windows some long x y (wired.Alone f bytes ∷ rest) is new e =
         let less : World = record w { wire = changed_pair w.wire x y rest } in
         let passes : (test : Wired → Bool) (s t : ℕ) → x ≡ s → y ≡ t → oldest_passes test (w.wire s t) ≡ true =

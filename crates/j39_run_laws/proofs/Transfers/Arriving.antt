@@ -40,7 +40,8 @@ use Rattle.j39_run_laws.proofs.Transfers.Coming as coming
 use Rattle.j39_run_laws.proofs.Transfers.Coming.{at_stage, IsComing}
 use Rattle.j39_run_laws.proofs.Transfers.ComingTaken as taken
 use Rattle.j39_run_laws.proofs.Transfers.Ending.{item_ready, emit_allowed}
-use Rattle.j39_run_laws.proofs.Transfers.Flights.{is_whole, packet_count, item_count, IsItem, InFlight, flight_begun, HasSent, HasTaken, IsUnderWay, all_reported}
+use Rattle.j39_run_laws.proofs.Transfers.Flights.{is_whole, packet_count, item_count, IsItem, InFlight, flight_begun, HasSent, HasTaken, IsUnderWay}
+use Rattle.j39_run_laws.proofs.Transfers.Flights.{all_reported}
 
 module _ (plan : Plan) (u : ℕ) (o : Outgoing) (meant : List ℕ) (before : ℕ → List Begun) (unanswered : (o.to ≡ tos.All) ⊎ (is_whole o ≡ true)) where
   abbrev Coming : World → Type 0
@@ -82,7 +83,8 @@ module _ (plan : Plan) (u : ℕ) (o : Outgoing) (meant : List ℕ) (before : ℕ
     step_keeps (LateSender s) spares allowed new leads = coming.late_keeps plan u o meant before unanswered w kept.transfers kept.accounted c s new leads
     step_keeps (LateReceiver x y) spares allowed new e =
         subst Coming (sym e) (taken.late_receiver_keeps plan u o meant before unanswered w kept.transfers c (windows_of plan) x y spares)
-    step_keeps (Rest s) spares allowed new e = subst Coming (sym e) (coming.rest_keeps plan u o meant before unanswered w kept.transfers kept.accounted c s spares)
+    step_keeps (Rest s) spares allowed new e = subst Coming (sym e)
+        (coming.rest_keeps plan u o meant before unanswered w kept.transfers kept.accounted c s spares)
 
     -- a world that follows, by a step that is refused or not
     next_keeps : (step : Step) → Spares plan w u meant step → (new : World) → Follows plan w step new → IsKept plan new × Coming new

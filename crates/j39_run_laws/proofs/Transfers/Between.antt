@@ -174,7 +174,8 @@ module _ (o : Outgoing) (before : List Begun) where
       let is : item ≡ wired.Packet (Cts c.count (c.reception.held + 1) o.pgn) = cc answers in
       ap (λ (x : Wired). is_alone x || is_of_sender x) is)
   answering_received item stage coming answering pr reports (inr (inr (inr (inl r)))) =
-      (let answers = r.answers in let is : item ≡ wired.Packet (EndAck (length o.bytes) o.pgn) = cc answers in ap (λ (x : Wired). is_alone x || is_of_sender x) is)
+      (let answers = r.answers in let is : item ≡ wired.Packet (EndAck (length o.bytes) o.pgn) = cc answers
+      in ap (λ (x : Wired). is_alone x || is_of_sender x) is)
 
   -- nothing of it is one frame
   pub no_short : (bytes : List ℕ) (stage : Stage) (coming answering : List Wired) (pr : Progress) (reports : List Begun)

@@ -76,7 +76,8 @@ module _ (o : Outgoing) (before : List Begun) where
       let next : receiver.takes_data (Answering window) r number ≡ receiver.takes_next (Answering window) r = cond-true (number == r.held + 1) _ _ first in
       elim (cases_Bool (r.held + 1 == packets_of r.size)) [
         | inl last ↦ inl (
-          next ∙ (cond-true (r.held + 1 == packets_of r.size) _ _ last ∙ ap (λ (k : ReceptionKind). (Complete r.pgn, receiver.completed (Answering window) k r)) kind),
+          next ∙ (cond-true (r.held + 1 == packets_of r.size) _ _ last ∙ ap
+              (λ (k : ReceptionKind). (Complete r.pgn, receiver.completed (Answering window) k r)) kind),
           (let e = eqb-true (r.held + 1) (packets_of r.size) last in omega (arith, e)),
         )
         | inr more ↦ inr (elim (cases_Bool (r.held + 1 == r.granted)) [

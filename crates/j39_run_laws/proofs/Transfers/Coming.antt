@@ -346,7 +346,12 @@ module _ (plan : Plan) (u : ℕ) (o : Outgoing) (meant : List ℕ) (before : ℕ
               let way : IsOnItsWay coming.sent w v = coming.ways v among in
               subst (λ (xs : List Wired). IsUnderWay o (suc coming.sent) xs (w.receivers v u) (reported w.reports v u) (before v))
               (sym (sent_here v (wired.Packet p) among))
-              (record { taken = way.taken; flight = flight_next o (w.wire u v) (wired.Packet p) way.taken coming.sent on.1 way.flight; receiver = way.receiver });
+              (record {
+                taken = way.taken;
+                flight = flight_next o (w.wire u v)
+                    (wired.Packet p) way.taken coming.sent on.1 way.flight;
+                receiver = way.receiver;
+              });
         }
 
     pub emit_keeps : (s : ℕ) (new : World) → Emits w s new → IsComing new

@@ -30,7 +30,8 @@ use Rattle.j39_run_laws.proofs.Reports.TransferInvariant.{TransferInvariant}
 use Rattle.j39_run_laws.proofs.Runs.Changed.{IsElsewhere, changed_here, changed_elsewhere, pair_here, pair_elsewhere, pair_here_or_elsewhere}
 use Rattle.j39_run_laws.proofs.Runs.Elements.{all-append}
 use Rattle.j39_run_laws.proofs.Transfers.FitSteps.{receiver_answers}
-use Rattle.j39_run_laws.proofs.Transfers.Flights.{is_whole, IsItem, InFlight, sent_most, HasTaken, IsUnderWay, grown_under_way, short_heard, HearsOn, packet_heard}
+use Rattle.j39_run_laws.proofs.Transfers.Flights.{is_whole, IsItem, InFlight, sent_most, HasTaken, IsUnderWay, grown_under_way, short_heard, HearsOn}
+use Rattle.j39_run_laws.proofs.Transfers.Flights.{packet_heard}
 use Rattle.j39_run_laws.proofs.Transfers.Coming.{reports_beside, answers_grow, reports_nothing, none_apart, reports_apart, message_reported, at_stage, IsComing}
 use Rattle.j39_run_laws.proofs.Transfers.Coming.{stage_kept}
 
@@ -169,7 +170,8 @@ module _ (plan : Plan) (u : ℕ) (o : Outgoing) (meant : List ℕ) (before : ℕ
           (receiver_answers (window_at windows y) (w.receivers y x) p) (asides_answer reacted (reaction_aside (w.sessions y) x p)))
 
       -- what was taken was taken, and answers are sent
-      way_then : (s t : ℕ) → IsUnderWay o coming.sent (less s t) (changed_pair w.receivers y x (closed_if_complete heard.0) t s) (reported (w.reports ++ rs) t s) (before t)
+      way_then : (s t : ℕ) → IsUnderWay o coming.sent (less s t) (changed_pair w.receivers y x (closed_if_complete heard.0) t s)
+          (reported (w.reports ++ rs) t s) (before t)
           → WayAt coming.sent then s t
       way_then s t = grown_under_way o coming.sent (less s t) _ _ _ (before t)
           (answers_grow less y x (map wired.Packet (receiver_replies heard.1 ++ sender_replies (reaction_of (w.sessions y) x p))) answers s t)
@@ -191,7 +193,8 @@ module _ (plan : Plan) (u : ℕ) (o : Outgoing) (meant : List ℕ) (before : ℕ
                 (sym (none_apart w x y p rs x y (reports_nothing w x y p rs heard.1 nothing stated))) has
             | inr (message, has) ↦ has (reported (w.reports ++ rs) y x) (one_report same among message)
           ] in
-          way_then x y (subst (λ (xs : List Wired). IsUnderWay o coming.sent xs (changed_pair w.receivers y x (closed_if_complete heard.0) y x) (reported (w.reports ++ rs) y x) (before y))
+          way_then x y (subst (λ (xs : List Wired). IsUnderWay o coming.sent xs (changed_pair w.receivers y x (closed_if_complete heard.0) y x)
+          (reported (w.reports ++ rs) y x) (before y))
           (sym (pair_here w.wire x y rest))
           (subst (λ (pr : Progress). IsUnderWay o coming.sent rest pr (reported (w.reports ++ rs) y x) (before y))
           (sym (pair_here w.receivers y x (closed_if_complete heard.0))) (record { taken = hears.taken; flight = hears.flight; receiver = has })))

@@ -107,10 +107,11 @@ module _ (plan : Plan) (w : World) (kept : IsKept plan w) where
       let rest : Bool = list_all (λ item. not (is_of_sender item)) (w.wire u t) && list_all (λ item. not (is_of_receiver item)) (w.wire t u) in
       elim (and_cases (not (is_open_at (w.receivers t u))) rest none) [
         | inl hears ↦ can_time_out u t (not-false (is_open_at (w.receivers t u)) hears)
-        | inr some ↦ elim (and_cases (list_all (λ item. not (is_of_sender item)) (w.wire u t)) (list_all (λ item. not (is_of_receiver item)) (w.wire t u)) some) [
-          | inl sent ↦ can_lose u t (some_item (λ item. not (is_of_sender item)) (w.wire u t) sent)
-          | inr answered ↦ can_lose t u (some_item (λ item. not (is_of_receiver item)) (w.wire t u) answered)
-        ]
+        | inr some ↦ elim (and_cases (list_all (λ item. not (is_of_sender item)) (w.wire u t))
+            (list_all (λ item. not (is_of_receiver item)) (w.wire t u)) some) [
+              | inl sent ↦ can_lose u t (some_item (λ item. not (is_of_sender item)) (w.wire u t) sent)
+              | inr answered ↦ can_lose t u (some_item (λ item. not (is_of_receiver item)) (w.wire t u) answered)
+            ]
       ]
 
   module _ (u : ℕ) (o : Outgoing) (is : w.sessions u ≡ Some o) where

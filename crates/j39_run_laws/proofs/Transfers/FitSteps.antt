@@ -246,7 +246,8 @@ module _ (plan : Plan) (w : World) (inv : IsWorldFit w) where
 
   give_fits : (u v : ℕ) (list : List Item) (new : World) → GivenFrom (units_of plan) w u v list new → IsWorldFit new
   give_fits u v [] new never = absurd never
-  give_fits u v (item ∷ rest) new (says, s, answers, e) = subst IsWorldFit (sym e) (stated_fits (heard_and_answered (units_of plan) w u v rest says s) refl refl refl refl)
+  give_fits u v (item ∷ rest) new (says, s, answers, e) = subst IsWorldFit (sym e)
+      (stated_fits (heard_and_answered (units_of plan) w u v rest says s) refl refl refl refl)
 
 pub steps_fit : (plan : Plan) → IsPreserved plan IsWorldFit
 steps_fit plan w inv (Up u) allowed new e = subst IsWorldFit (sym e) (switched_fits plan w inv u (switched_on (units_of plan) w u) refl refl refl refl)

@@ -130,7 +130,8 @@ module _ (h : List Packet) (p : Packet) where
 
   -- it is no data packet, and leaves the session open
   module _ (data_free : (number : ℕ) (seven : List ℕ) → p ≡ Dt number seven → ⊥) where
-    reaches_beside : (kind : ReceptionKind) (start k place : ℕ) (chunks : List ℕ) → Reaches h kind start k place chunks → Reaches (h ++ p ∷ []) kind start k place chunks
+    reaches_beside : (kind : ReceptionKind) (start k place : ℕ) (chunks : List ℕ) → Reaches h kind start k place chunks
+        → Reaches (h ++ p ∷ []) kind start k place chunks
     reaches_beside kind start zero place chunks r = r
     reaches_beside kind start (suc k) place chunks r = (
       r.0,

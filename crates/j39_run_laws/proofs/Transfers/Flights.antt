@@ -187,7 +187,8 @@ next_heard window r number kind is =
     let next : receiver.takes_data (Answering window) r number ≡ receiver.takes_next (Answering window) r = cond-true (number == r.held + 1) _ _ first in
     elim (cases_Bool (r.held + 1 == packets_of r.size)) [
       | inl last ↦ inr (
-        next ∙ (cond-true (r.held + 1 == packets_of r.size) _ _ last ∙ ap (λ (k : ReceptionKind). (Complete r.pgn, receiver.completed (Answering window) k r)) kind),
+        next ∙ (cond-true (r.held + 1 == packets_of r.size) _ _ last ∙ ap
+            (λ (k : ReceptionKind). (Complete r.pgn, receiver.completed (Answering window) k r)) kind),
         (let e = eqb-true (r.held + 1) (packets_of r.size) last in omega (arith, e)),
       )
       | inr more ↦ inl (

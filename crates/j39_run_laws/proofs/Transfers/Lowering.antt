@@ -83,7 +83,8 @@ module _ (plan : Plan) (w : World) (inv : IsWorldFit w) where
 
   sent_measure : (u : ℕ) (targets : List ℕ) (item : Wired) → u < n
       → wire_measure n (added w.wire u targets item) ≤ wire_measure n w.wire + n * item_weight n item
-  sent_measure u targets item in_u = pairs_row n (λ s t. list_weight n (added w.wire u targets item s t)) (λ s t. list_weight n (w.wire s t)) u (item_weight n item) in_u
+  sent_measure u targets item in_u = pairs_row n (λ s t. list_weight n (added w.wire u targets item s t)) (λ s t. list_weight n (w.wire s t)) u
+      (item_weight n item) in_u
       (λ s t other. let e : eqb s u ≡ false = ne_eqb s u other in rw e refl)
       (λ t. cond_both (eqb u u && is_among targets t) (w.wire u t ++ item ∷ []) (w.wire u t)
       (λ (list : List Wired). list_weight n list ≤ list_weight n (w.wire u t) + item_weight n item)

@@ -129,7 +129,8 @@ WaitsAt to stage = stage ≡ Waiting → (x : ℕ) × (to ≡ tos.One x)
 
 begun_waits : (flow : Flow) (bytes : List ℕ) → WaitsAt flow.to (begun_stage flow bytes)
 begun_waits flow bytes =
-    cond_both (is_short (length bytes)) (Resting Sent) (sender.begun (dest_of flow.to) (length bytes)) (WaitsAt flow.to) (λ _ e. absurd (cc e)) (λ _. of flow.to)
+    cond_both (is_short (length bytes)) (Resting Sent) (sender.begun (dest_of flow.to) (length bytes)) (WaitsAt flow.to) (λ _ e. absurd (cc e))
+    (λ _. of flow.to)
   where
     of : (to : To) → WaitsAt to (sender.begun (dest_of to) (length bytes))
     of tos.All e = absurd (cc e)
@@ -268,7 +269,10 @@ module _ (plan : Plan) (w : World) (kept : IsKept plan w) (old : AllNamed w) whe
   planned_at u s is = subst (PlannedAt plan u) is (kept.transfers.order.planned u)
 
   emit_named : (u : ℕ) (s : Outgoing) (p : Packet) → w.sessions u ≡ Some s → sender.data_next s.bytes s.stage ≡ Some p
-      → AllNamed (record (sent_to_receivers w u s p) { sessions = changed w.sessions u (Some (record s { stage = sender.after_packet (dest_of s.to) s.stage })) })
+      → AllNamed (record (sent_to_receivers w u s p) {
+        sessions = changed w.sessions u
+            (Some (record s { stage = sender.after_packet (dest_of s.to) s.stage }));
+      })
   emit_named u s p is next =
       sends_named u s (sender.after_packet (dest_of s.to) s.stage) p is (λ t among. says_data plan u s (planned_at u s is) t among p next)
       (emitted_waits s.to s.stage (subst WaitsForOne is (old.waits u)))
@@ -303,7 +307,8 @@ module _ (plan : Plan) (w : World) (kept : IsKept plan w) (old : AllNamed w) whe
 
   lose_named : (u v : ℕ) (list : List Wired) → w.wire u v ≡ list → (new : World) → LostFrom w u v list new → AllNamed new
   lose_named u v [] is new never = absurd never
-  lose_named u v (item ∷ rest) is new e = subst AllNamed (sym e) (record { wire = less u v item rest is; receivers = old.receivers; waits = old.waits; ended = old.ended })
+  lose_named u v (item ∷ rest) is new e = subst AllNamed (sym e) (record
+      { wire = less u v item rest is; receivers = old.receivers; waits = old.waits; ended = old.ended })
 
   rts_named : (u v : ℕ) (p : Packet) → IsNamed w.sessions u v (wired.Packet p) → (pgn : ℕ) → IsRtsOf p pgn → IsTo (w.sessions u) v pgn
   rts_named u v (Rts size limit named) head pgn is = subst (IsTo (w.sessions u) v) is head
@@ -393,7 +398,8 @@ module _ (plan : Plan) (w : World) (kept : IsKept plan w) (old : AllNamed w) whe
 
   give_named : (u v : ℕ) (list : List Item) (new : World) → GivenFrom (units_of plan) w u v list new → AllNamed new
   give_named u v [] new never = absurd never
-  give_named u v (item ∷ rest) new (says, s, answers, e) = subst AllNamed (sym e) (record { wire = old.wire; receivers = old.receivers; waits = old.waits; ended = old.ended })
+  give_named u v (item ∷ rest) new (says, s, answers, e) = subst AllNamed (sym e)
+      (record { wire = old.wire; receivers = old.receivers; waits = old.waits; ended = old.ended })
 
   send_named : (f : ℕ) (o : Option Flow) (bytes : List ℕ) (new : World) → SendsAt (count_of plan) w f o bytes new → AllNamed new
   send_named f None bytes new never = absurd never

@@ -202,7 +202,8 @@ module _ (plan : Plan) (u v : ℕ) (stated lay passed : List Begun) (one : Begun
         → IsFollowed s x (reported_alone w.reports x s) [] (w.sent_alone s x)
     none_dropped s x none part = subst (λ (list : List Wired). IsFollowed s x (reported_alone w.reports x s) (lying_alone list) (w.sent_alone s x)) none part
 
-    dropped : (step : Step) → SparesAlone plan w u v (length passed) step → refusal plan w step ≡ None → AreDropped IsFollowed followed_sent followed_reported w step
+    dropped : (step : Step) → SparesAlone plan w u v (length passed) step → refusal plan w step ≡ None
+        → AreDropped IsFollowed followed_sent followed_reported w step
     dropped (Up x) spares allowed =
         let (known, (off_is, more)) = none_refuses plan w (Up x) allowed in
         λ s part. none_dropped s x (untaken plan w kept.transfers kept.accounted s x off_is) part

@@ -227,7 +227,8 @@ module _ (n : ℕ) where
       → ReactsUpTo (stage_weight n stage + clearing n p) (sender.stage_hears dest own size stage p)
   reacts_weight dests.All own size stage p most = omega arith
   reacts_weight dests.One own size stage (Cts count first pgn) most =
-      cond_both (pgn == own) _ _ (ReactsUpTo (stage_weight n stage + burst n)) (λ _. cleared_weight own (packets_of size) count first stage most) (λ _. omega arith)
+      cond_both (pgn == own) _ _ (ReactsUpTo (stage_weight n stage + burst n)) (λ _. cleared_weight own (packets_of size) count first stage most)
+      (λ _. omega arith)
   reacts_weight dests.One own size stage (EndAck received pgn) most =
       cond_both (pgn == own && received == size) _ _ (ReactsUpTo (stage_weight n stage + 0)) (λ _. omega (arith, ended_weight Acked stage)) (λ _. omega arith)
   reacts_weight dests.One own size stage (Abort reason pgn) most =

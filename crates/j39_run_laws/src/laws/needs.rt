@@ -25,7 +25,8 @@ pub fn a_needed_value_arrives()
 pub fn a_sent_value_arrives()
     ensures reported { (plan : Plans) (steps : List Steps) (w : World) → Run plan all_off steps w
         → (n : NeededAlone plan w)
-        → HasArrivedAlone w n.frame.passage.after n.message.flow.sender n.message.need.unit (record { flow = n.message.place; bytes = bytes_of n.message }) }
+        → HasArrivedAlone w n.frame.passage.after n.message.flow.sender n.message.need.unit
+        (record { flow = n.message.place; bytes = bytes_of n.message }) }
     ensures read { (plan : Plans) (steps : List Steps) (w : World) → Clean plan → Run plan all_off steps w
         → (n : NeededAlone plan w) (x : LastWrite n.message) → ReadsAsWritten n.message x x.write.place }
 {}

@@ -2,7 +2,8 @@
 ghost use Rattle.std.specs.Prelude.{◌≡◌, ◌-◌, map, length};
 ghost use Rattle.toml.specs.View.{table_view};
 ghost use Rattle.j39_toml.specs.Outcome.{Gives, GivesGrowing};
-ghost use Rattle.j39_variants.specs.ChoiceTables.{alternative_limit, choice_labels, choice_table_faults, new_label_faults, room_behind};
+ghost use Rattle.j39_variants.specs.ChoiceTables.{alternative_limit, choice_labels, choice_table_faults};
+ghost use Rattle.j39_variants.specs.ChoiceTables.{new_label_faults, room_behind};
 ghost use Rattle.j39_variants.specs.ChoiceTables.{DescribesChoice};
 
 use super::labels::{is_among, is_in_choices, label_of};
@@ -40,7 +41,8 @@ fn new_label(
     seen: &[Label],
     text: &str,
 ) -> Result<Label, PlanError>
-    ensures { Gives result (new_label_faults table (map choice_labels choices.now) (map (λ l. l.bytes) seen.now) text.now)
+    ensures { Gives result (new_label_faults table (map choice_labels choices.now)
+        (map (λ l. l.bytes) seen.now) text.now)
         (λ l. l.bytes ≡ text.now) }
 {
     match label_of(text) {
@@ -103,7 +105,8 @@ fn choice(
     index: usize,
     members: &toml::Table,
 ) -> Result<Choice, PlanError>
-    ensures gives { GivesGrowing (Unit {0}) result (choice_table_faults index (map choice_labels choices.now) (table_view members.now))
+    ensures gives { GivesGrowing (Unit {0}) result
+        (choice_table_faults index (map choice_labels choices.now) (table_view members.now))
         (DescribesChoice (table_view members.now)) }
 {
     let table = Table::Choice(index);

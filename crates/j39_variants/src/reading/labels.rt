@@ -1,5 +1,6 @@
 //! Labels of alternatives, and what they name.
-ghost use Rattle.std.specs.Prelude.{◌≡◌, false, true, map, option_map, option_and_then, MatchOption, position, slice_get};
+ghost use Rattle.std.specs.Prelude.{◌≡◌, false, true, map, option_map, option_and_then, MatchOption, position};
+ghost use Rattle.std.specs.Prelude.{slice_get};
 ghost use Rattle.std.specs.List.{list_any};
 ghost use Rattle.std.specs.Str.{bytes_eq};
 ghost use Rattle.j39_id.specs.LabelForm.{is_label};

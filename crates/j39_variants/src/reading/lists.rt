@@ -83,7 +83,8 @@ fn named_behind(
     seen: &[NamedAlternative],
     text: &str,
 ) -> Result<NamedAlternative, PlanError>
-    ensures { Gives result (named_faults table key (map choice_labels choices.now) (map (λ n. n.label.bytes) seen.now) text.now)
+    ensures { Gives result (named_faults table key (map choice_labels choices.now)
+        (map (λ n. n.label.bytes) seen.now) text.now)
         (IsNamed (map choice_labels choices.now) text.now) }
 {
     match label_of(text) {
@@ -113,7 +114,8 @@ fn named_beside(
 ) -> Result<NamedAlternative, PlanError>
     ensures { let labels = map choice_labels choices.now in let behind = map (λ n. n.label.bytes) seen.now in
         Gives result (named_faults table key labels behind text.now
-        ++ misplaced_faults table key labels (option_map (λ o. map (λ n. n.at.choice) o.now) others.entry) behind text.now) (IsNamed labels text.now) }
+        ++ misplaced_faults table key labels (option_map
+        (λ o. map (λ n. n.at.choice) o.now) others.entry) behind text.now) (IsNamed labels text.now) }
 {
     let found = named_behind(choices, table, key, seen, text)?;
     match others {
@@ -148,7 +150,8 @@ impl ReadElement<NamedAlternative, PlanFault> for ElementReader<'_, '_> {
 
     ghost data_label = { label_text_in };
 
-    ghost faults = { λ r. element_faults r.table r.key (map choice_labels r.choices.now) (option_map (λ o. map (λ n. n.at.choice) o.now) r.others) };
+    ghost faults = { λ r. element_faults r.table r.key (map choice_labels r.choices.now)
+        (option_map (λ o. map (λ n. n.at.choice) o.now) r.others) };
 
     ghost Grows = { λ _ _ _ _. Unit {0} };
 

@@ -54,7 +54,8 @@ pub fn is_misplaced(
     seen: &[NamedAlternative],
     choice: usize,
 ) -> bool
-    ensures { result ≡ is_misplaced (map choice_labels choices.now) (map (λ n. n.at.choice) others.now) (map (λ n. n.label.bytes) seen.now) choice }
+    ensures { result ≡ is_misplaced (map choice_labels choices.now) (map (λ n. n.at.choice) others.now)
+        (map (λ n. n.label.bytes) seen.now) choice }
 {
     is_of_another(choices, choice, seen)
         || is_choice_among(others, choice)

@@ -60,7 +60,8 @@ fn never(
     index: usize,
     members: &toml::Table,
 ) -> Result<Vec<Alternative>, PlanError>
-    ensures { GivesGrowing (Unit {0}) result (never_table_faults (map choice_labels choices.now) index (table_view members.now))
+    ensures { GivesGrowing (Unit {0}) result (never_table_faults (map choice_labels choices.now) index
+        (table_view members.now))
         (λ v. DescribesNever (map choice_labels choices.now) (table_view members.now) v.items) }
 {
     let table = Table::Never(index);

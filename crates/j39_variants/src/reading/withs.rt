@@ -21,7 +21,8 @@ fn list(
     table: Table,
     members: &toml::Table,
 ) -> Result<Vec<Alternative>, PlanError>
-    ensures { GivesGrowing (Unit {0}) result (list_faults table with_rule (map choice_labels choices.now) None (table_view members.now))
+    ensures { GivesGrowing (Unit {0}) result (list_faults table with_rule (map choice_labels choices.now) None
+        (table_view members.now))
         (λ v. IsList Key.With (map choice_labels choices.now) (table_view members.now) v.items) }
 {
     let values = listed(members, table, Key::With, 1, false)?;

@@ -68,7 +68,8 @@ fn has_unit(units: &[NameOnBus], bus: &str, label: &str) -> bool
 // Whether one of the units is on the bus of a group and has the label, where one is asked for.
 fn is_unit_beside(units: &[NameOnBus], group: &str, label: Option<&str>) -> bool
     ensures { result
-        ≡ spec.is_unit_beside (map (λ n. string_bytes n.text) units.now) (Some group.now) (option_map (λ t. t.now) label.entry) }
+        ≡ spec.is_unit_beside (map (λ n. string_bytes n.text) units.now) (Some group.now)
+        (option_map (λ t. t.now) label.entry) }
 {
     match label {
         None => true,
@@ -89,7 +90,8 @@ pub fn known_labels(
     by_unit: Option<&str>,
 ) -> Result<(), VehicleError>
     ensures { Gives result (spec.known_faults table (map named_gateway gateways.now) (Some gateway.now) (Some heard.now)
-        (option_map (λ t. t.now) at_unit.entry) (Some sent.now) (option_map (λ t. t.now) by_unit.entry)) (λ _. Unit {0}) }
+        (option_map (λ t. t.now) at_unit.entry) (Some sent.now) (option_map (λ t. t.now) by_unit.entry))
+        (λ _. Unit {0}) }
 {
     let units = units_of(gateways, gateway);
     known(has_label(gateways, gateway), table, Key::Gateway)?;

@@ -80,7 +80,8 @@ fn mode(word: Option<&str>) -> Mode
 
 #[tactic(auto, using(j39_toml::proofs::FirstFaults::faults_after))]
 fn sent_keys(members: &toml::Table, table: Table) -> Result<SentKeys<'_>, VehicleError>
-    ensures { Gives result (keys_faults table (table_view members.now) spec.sent_rules) (λ k. let ms = table_view members.now in
+    ensures { Gives result (keys_faults table (table_view members.now) spec.sent_rules)
+        (λ k. let ms = table_view members.now in
         (text_at Key.As ms ≡ Some k.output.now) × (text_at Key.By ms ≡ option_map (λ t. t.now) k.by)
         × (text_at Key.To ms ≡ option_map (λ t. t.now) k.to) × (k.mode ≡ spec.mode_of (text_at Key.Mode ms))
         × (k.within ≡ number_under Key.Within ms)
@@ -139,7 +140,8 @@ fn signals(
     ensures gives { let items = spec.items_or_none (option_map (λ vs. items_view vs.now) values.entry) in
         GivesGrowing (EachGrows (signal_faults forward) (SignalGrows forward) items) result
         (each_faults (signal_faults forward) forwarded_name 0 [] items)
-        (λ signals. spec.DescribesSignals (option_map (λ vs. items_view vs.now) values.entry) (option_map (λ v. v.items) signals)) }
+        (λ signals. spec.DescribesSignals (option_map (λ vs. items_view vs.now) values.entry)
+        (option_map (λ v. v.items) signals)) }
     ensures count { IfOk result (λ signals. IfSome signals (λ v. length v.items ≤ signal_limit)) }
 {
     match values {
@@ -188,7 +190,8 @@ fn forward(
 ) -> Result<ForwardTable, VehicleError>
     ensures { let seen = map named_gateway gateways.now in
         GivesGrowing (ForwardTableGrows seen index (table_view members.now)) result
-        (spec.forward_table_faults seen index (table_view members.now)) (spec.DescribesForward (table_view members.now)) }
+        (spec.forward_table_faults seen index (table_view members.now))
+        (spec.DescribesForward (table_view members.now)) }
 {
     let table = Table::Forward(index);
     let keys = keys(members, table)?;

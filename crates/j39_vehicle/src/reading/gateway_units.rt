@@ -108,7 +108,8 @@ pub fn are_on(buses: &[BusTable], values: &[Value]) -> bool
 /// The elements as names on buses.
 #[tactic(auto, using(crate::proofs::Units::texts_map))]
 pub fn units(alloc: Global, values: &[Value]) -> Result<Vec<NameOnBus>, VehicleError>
-    ensures same { IfOk result (λ units. map (λ n. string_bytes n.text) units.items ≡ texts_in (items_view values.now)) }
+    ensures same { IfOk result (λ units. map (λ n. string_bytes n.text) units.items ≡ texts_in
+        (items_view values.now)) }
     ensures count { IfOk result (λ units. length units.items ≡ length values.now) }
     ensures memory { IfErr result (λ e. e ≡ Memory) }
 {

@@ -35,7 +35,8 @@ fn gateway(
     seen: &[GatewayTable],
     members: &toml::Table,
 ) -> Result<GatewayTable, VehicleError>
-    ensures { let faults = gateway_table_faults (map named_bus buses.now) index (map named_gateway seen.now) (table_view members.now) in
+    ensures { let faults = gateway_table_faults (map named_bus buses.now) index (map named_gateway seen.now)
+        (table_view members.now) in
         GivesGrowing (faults ≡ []) result faults (DescribesGateway (table_view members.now)) }
 {
     let table = Table::Gateway(index);

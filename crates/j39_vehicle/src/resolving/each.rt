@@ -22,7 +22,8 @@ pub trait Resolve<S, T> {
     ghost StandsFor: { Self → S → T → Type 0 };
 
     fn resolve(&self, alloc: Global, index: usize, table: &S) -> Result<T, VehicleError>
-        ensures { GivesGrowing (Grows self.now index table.now) result (faults self.now index table.now) (StandsFor self.now table.now) };
+        ensures { GivesGrowing (Grows self.now index table.now) result (faults self.now index table.now)
+            (StandsFor self.now table.now) };
 }
 
 /// What the tables stand for, in order.

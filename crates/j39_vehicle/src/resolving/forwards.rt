@@ -100,9 +100,12 @@ fn signals(
 ) -> Result<Option<Vec<ForwardedSignal>>, VehicleError>
     requires { IfSome listed.now (λ v. length v.items ≤ signal_limit) }
     ensures gives { let tables = option_map (λ v. v.items) listed.now in
-        GivesGrowing (spec.ListGrows resolver.now.buses.now resolver.now.forward resolver.now.heard resolver.now.sent tables) result
-        (spec.signals_found resolver.now.buses.now resolver.now.forward (Some resolver.now.heard) (Some resolver.now.sent) tables)
-        (λ found. spec.StandForSignals resolver.now.buses.now resolver.now.heard resolver.now.sent tables (option_map (λ v. v.items) found)) }
+        GivesGrowing
+        (spec.ListGrows resolver.now.buses.now resolver.now.forward resolver.now.heard resolver.now.sent tables) result
+        (spec.signals_found resolver.now.buses.now resolver.now.forward (Some resolver.now.heard)
+        (Some resolver.now.sent) tables)
+        (λ found. spec.StandForSignals resolver.now.buses.now resolver.now.heard resolver.now.sent tables
+        (option_map (λ v. v.items) found)) }
     ensures count { IfOk result (λ found. IfSome found (λ v. length v.items ≤ signal_limit)) }
 {
     match listed {

@@ -5,7 +5,8 @@ ghost use Rattle.std.specs.Option.{option_map_or};
 ghost use Rattle.j39_network.specs.declared.plan.unit_plan.UnitPlan.{UnitPlan as APlannedUnit};
 ghost use Rattle.j39_search.specs.Adding.{Adds};
 ghost use Rattle.j39_search.specs.ListPlaces.{found_if, in_each};
-ghost use Rattle.j39_vehicle_findings.specs.FoundPaths.{has_any_queue, has_timing, is_any_queue, may_share_queue, queue_findings};
+ghost use Rattle.j39_vehicle_findings.specs.FoundPaths.{has_any_queue, has_timing, is_any_queue, may_share_queue};
+ghost use Rattle.j39_vehicle_findings.specs.FoundPaths.{queue_findings};
 ghost use Rattle.j39_vehicle_findings.specs.FoundPaths.{shared_queues};
 
 use crate::finding::VehicleFinding;

@@ -4,7 +4,8 @@ ghost use Rattle.std.specs.Option.{option_map_or};
 ghost use Rattle.j39_search.specs.Adding.{Adds};
 ghost use Rattle.j39_search.specs.ListPlaces.{found_if, in_each};
 ghost use Rattle.j39_vehicle_findings.specs.FoundPaths.{are_unlike, differences, differs_from, is_copied_otherwise};
-ghost use Rattle.j39_vehicle_findings.specs.FoundPaths.{is_in_selector, is_other_signal, is_other_source, is_written_otherwise};
+ghost use Rattle.j39_vehicle_findings.specs.FoundPaths.{is_in_selector, is_other_signal, is_other_source};
+ghost use Rattle.j39_vehicle_findings.specs.FoundPaths.{is_written_otherwise};
 ghost use Rattle.j39_vehicle_findings.specs.FoundPaths.{signals_that_differ};
 
 use crate::buses::{group_at, spn_at};
@@ -132,7 +133,8 @@ struct SignalDiffers<'a> {
 impl Rule<Signal, VehicleFinding> for SignalDiffers<'_> {
     ghost use Rattle.j39_vehicle_findings.specs.declared.finding.VehicleFinding.TheVariants.{SignalDiffers as SignalsDiffer};
 
-    ghost gives = { λ rule j t. found_if (is_other_signal rule.forward.now rule.heard.now rule.sent.now j t) (SignalsDiffer rule.place j) };
+    ghost gives = { λ rule j t. found_if (is_other_signal rule.forward.now rule.heard.now rule.sent.now j t)
+        (SignalsDiffer rule.place j) };
 
     fn find(
         &self,

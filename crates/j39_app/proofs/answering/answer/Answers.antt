@@ -34,7 +34,11 @@ pub returns-in-Read-clause-ends : goal.returns-in-Read-clause-ends
 returns-in-Read-clause-ends g c = rw c.in-Read.is (rw (c.deref-in-Read.ensures, c.deref-in-Read-2.ensures) at c.by_two-in-Read.ensures)
 
 pub returns-in-Follow-clause-ends : goal.returns-in-Follow-clause-ends
-returns-in-Follow-clause-ends g c = rw c.in-Follow.is (rw (c.deref-in-Follow.ensures, c.deref-in-Follow-2.ensures, c.are_all.ensures) at c.by_two-in-Follow.ensures)
+returns-in-Follow-clause-ends g c = rw c.in-Follow.is (rw (
+  c.deref-in-Follow.ensures,
+  c.deref-in-Follow-2.ensures,
+  c.are_all.ensures,
+) at c.by_two-in-Follow.ensures)
 
 pub returns-in-Audit-clause-ends : goal.returns-in-Audit-clause-ends
 returns-in-Audit-clause-ends g c = rw c.in-Audit.is (rw (c.deref-in-Audit.ensures, c.deref-in-Audit-2.ensures) at c.by_two-in-Audit.ensures)

@@ -10,7 +10,8 @@ returns-in_err-file g c = not_opened _ (search rules) (inl c.in_err-file.ensures
 pub returns-then-has_choices : goal.returns-then-has_choices
 returns-then-has_choices g c =
     let some = c.has_choices.ensures.some c.if-has_choices.true in
-    ends_too {IsPart = IsOfSome RefusesChoices} (λ text verdict is. inr (some, is)) (λ text is. (is.0, inr (some, is.1))) (λ now. now) (λ long. long) (λ broken. broken)
+    ends_too {IsPart = IsOfSome RefusesChoices} (λ text verdict is. inr (some, is)) (λ text is. (is.0, inr (some, is.1))) (λ now. now) (λ long. long)
+    (λ broken. broken)
     c.refuse_choices.result (put_ends (λ text verdict is. (verdict, is)) c.refuse_choices.result c.refuse_choices.ensures)
 
 pub returns : goal.returns

@@ -20,7 +20,8 @@ returns c =
         | inr past ↦
             let none = slice_get_past plan.flows.items n (omega (arith, past, done, count)) in
             let not : is_stood_for plan c.args.unit c.args.group n ≡ false =
-            ap (λ (o : Option FlowPlan). option_map_or (λ (flow : FlowPlan). flow.sender == c.args.unit && have_one_number plan c.args.group flow.group) o false) none in
+            ap (λ (o : Option FlowPlan). option_map_or (λ (flow : FlowPlan). flow.sender == c.args.unit
+            && have_one_number plan c.args.group flow.group) o false) none in
             before.behind n past ∙ sym (ap (λ (b : Bool). cond b None (slice_index_or c.args.newest.now.items n None)) not)
       ];
     }

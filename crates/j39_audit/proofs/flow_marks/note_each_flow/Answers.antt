@@ -23,5 +23,6 @@ returns c =
     let count = c.len-place-end.ensures in
     let done = c.loop-place-test.false in
     let end : c.loop-place.place ≡ length all = omega (arith, count, done) in
-    subst (λ (n : ℕ). Notes c.args.tally.now c.loop-place.tally (each_below (marked c.args.line Unclear (λ (x : FlowPlan). is_of s k m x && (is_near s k m x.to || not c.args.some_near)) all) n)) end
+    subst (λ (n : ℕ). Notes c.args.tally.now c.loop-place.tally (each_below
+    (marked c.args.line Unclear (λ (x : FlowPlan). is_of s k m x && (is_near s k m x.to || not c.args.some_near)) all) n)) end
     c.loop-place.invariant

@@ -37,6 +37,7 @@ returns-in-Several c =
     let near = some_in_all (λ (f : FlowPlan). is_of s k m f && is_near s k m f.to) flows c.args.meant.near c.requires.near_is in
     let nearest = nearest_are c.requires (sym c.nearest.ensures ∙ c.in-Several.is) in
     subst (λ (more : List Noted). OnOk c.note_each_flow.result (Notes c.args.tally.now c.note_each_flow.new.tally more))
-    (ap (λ (some : Bool). all_marked c.args.line Unclear (λ (f : FlowPlan). is_of s k m f && (is_near s k m f.to || not some)) flows) (c.has_near.ensures ∙ sym near)
+    (ap (λ (some : Bool). all_marked c.args.line Unclear (λ (f : FlowPlan). is_of s k m f && (is_near s k m f.to || not some)) flows)
+    (c.has_near.ensures ∙ sym near)
     ∙ sym (ap (λ (is : Bool). all_marked c.args.line (if is then Seen else Unclear) (is_nearest_flow s k m) flows) nearest.alone_is))
     c.note_each_flow.ensures

@@ -7,7 +7,12 @@ loop-place-init c = meant_none _ _ _ _ c.nothing-meant.ensures
 
 pub loop-place-preserved : goal.loop-place-preserved
 loop-place-preserved c =
-    meant_read (omega (arith, c.len-place-end.ensures, c.loop-place-test.true)) c.index-request.ensures c.asks-is_meant.ensures c.meant_with-meant.ensures c.loop-place.invariant
+    meant_read
+    (omega (
+      arith,
+      c.len-place-end.ensures,
+      c.loop-place-test.true,
+    )) c.index-request.ensures c.asks-is_meant.ensures c.meant_with-meant.ensures c.loop-place.invariant
 
 pub returns : goal.returns
 returns c = meant_whole (omega (arith, c.len-place-end.ensures, c.loop-place-test.false, c.loop-place.auto)) c.loop-place.invariant

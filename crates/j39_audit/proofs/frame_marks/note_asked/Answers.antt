@@ -20,6 +20,8 @@ returns c =
     IfOk-weaker c.note_if.result _ _
     (λ _ last.
     notes_both first
-    (subst (λ (b : Mark). Notes between new (noted_if (was_asked_for s k true m.number m.source) (record { mark = b; line = line; detail = 0 }))) c.make_mark.ensures
-    (subst (λ (b : Bool). Notes between new (noted_if b (record { mark = c.make_mark.result; line = line; detail = 0 }))) c.was_asked_for-besides.ensures last)))
+    (subst (λ (b : Mark). Notes between new (noted_if (was_asked_for s k true m.number m.source)
+    (record { mark = b; line = line; detail = 0 }))) c.make_mark.ensures
+    (subst (λ (b : Bool). Notes between new
+    (noted_if b (record { mark = c.make_mark.result; line = line; detail = 0 }))) c.was_asked_for-besides.ensures last)))
     c.note_if.ensures

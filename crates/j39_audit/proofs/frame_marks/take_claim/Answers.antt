@@ -13,10 +13,12 @@ returns c = λ claims knows.
     let f = c.args.frame.now in
     let name : c.to_bits-name.result ≡ name_in f = c.to_bits-name.ensures.value ∙ c.carried_name.ensures in
     let who : c.unit_named-claimant.result ≡ unit_of_name s.plan (name_in f) = c.unit_named-claimant.ensures ∙ ap (unit_of_name s.plan) name in
-    let heard = subst (λ (n : ℕ). KnowsClaims s c.hear.new.self (with_claim (record { unit = c.unit_named-claimant.result; source = f.ident.sa; name = n }) claims)) name
+    let heard = subst (λ (n : ℕ). KnowsClaims s c.hear.new.self (with_claim
+    (record { unit = c.unit_named-claimant.result; source = f.ident.sa; name = n }) claims)) name
     (c.hear.ensures claims knows) in
     let noted = subst (λ (k : Knowledge). Notes c.args.tally.now c.note_claim.new.tally (claim_noted s k f c.args.line c.unit_named-claimant.result))
     (known_knowledge s c.args.known.now claims knows) c.in_ok-note_claim.ensures in (
-      rw c.requires (subst (λ (u : Option ℕ). KnowsClaims s c.hear.new.self (with_claim (record { unit = u; source = f.ident.sa; name = name_in f }) claims)) who heard),
+      rw c.requires (subst (λ (u : Option ℕ). KnowsClaims s c.hear.new.self
+          (with_claim (record { unit = u; source = f.ident.sa; name = name_in f }) claims)) who heard),
       rw c.requires (subst (λ (u : Option ℕ). Notes c.args.tally.now c.note_claim.new.tally (claim_noted s (knowledge s claims) f c.args.line u)) who noted),
     )

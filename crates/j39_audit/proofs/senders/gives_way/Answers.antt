@@ -22,4 +22,5 @@ unfolding gives_way
 returns c =
     let test = c.loop-address-test.false in
     let end : c.loop-address.address ≡ 254 = omega (arith, test) in
-    sym (ap (any_below (is_lost_to_another (settings_of c.args.basis.now) (known_by c.args.known.now) c.args.unit c.args.name)) (sym end) ∙ c.loop-address.invariant)
+    sym (ap (any_below (is_lost_to_another (settings_of c.args.basis.now) (known_by c.args.known.now) c.args.unit c.args.name))
+    (sym end) ∙ c.loop-address.invariant)

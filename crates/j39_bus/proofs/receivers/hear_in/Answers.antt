@@ -13,7 +13,8 @@ collect-requires-clause-room c =
     (sym c.fill.ensures.same) (c.in_ok-bytes.ensures.room c.args.window c.requires.answering) in
     let after : (holding_of c.send_to_others-heard.new.slot).bytes ≡ (receives r p).bytes =
     ap (λ (k : Receiving). k.bytes) (c.send_to_others-heard.ensures.after c.args.window c.fill.ensures.answering) in
-    let done = ap is_complete (sym (c.send_to_others-heard.ensures.heard c.args.window c.fill.ensures.answering)) ∙ sym c.is_complete.ensures ∙ c.if-is_complete.true in
+    let done = ap is_complete
+    (sym (c.send_to_others-heard.ensures.heard c.args.window c.fill.ensures.answering)) ∙ sym c.is_complete.ensures ∙ c.if-is_complete.true in
     subst (λ (bytes : List ℕ). length bytes ≤ vec_capacity c.in_ok-bytes.bytes) (sym after)
     (room_enough (hears r.manner r.progress p).1 (receives r p).bytes (vec_capacity c.in_ok-bytes.bytes) done room)
 

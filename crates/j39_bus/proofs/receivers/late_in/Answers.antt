@@ -8,6 +8,7 @@ pub returns-clause-answering : goal.returns-clause-answering
 returns-clause-answering c = λ window is.
     c.leave.ensures.answering window (elim c.match-slot.branch [
       | in-Some w ↦ subst (AnswersWithWindow window) (sym w.slot-is)
-          (ap (λ (r : Receiving). r.manner) (w.late-packet.ensures.after ∙ ap gives_up w.deref_mut.ensures.value) ∙ subst (AnswersWithWindow window) w.in-Some.is is)
+          (ap (λ (r : Receiving). r.manner) (w.late-packet.ensures.after ∙ ap gives_up w.deref_mut.ensures.value) ∙ subst
+          (AnswersWithWindow window) w.in-Some.is is)
       | in-None w ↦ subst (AnswersWithWindow window) (sym w.slot-is) is
     ])

@@ -7,19 +7,24 @@ use Rattle.j39_command_line.proofs.commands.commands.Goals as goal
 pub returns : goal.returns
 unfolding commands
 returns c =
-    let frames_is = known c.program-no_commands.result c.with_one-frames.result program (one_value (codes "frame") (codes "LINE")) c.program-no_commands.ensures c.with_one-frames.ensures in
+    let frames_is = known c.program-no_commands.result c.with_one-frames.result program
+    (one_value (codes "frame") (codes "LINE")) c.program-no_commands.ensures c.with_one-frames.ensures in
     let with_frames : App = with_subcommand program (one_value (codes "frame") (codes "LINE")).top in
-    let shows_is = known c.with_one-frames.result c.with_one-shows.result with_frames (one_value (codes "show") (codes "PLAN")) frames_is c.with_one-shows.ensures in
+    let shows_is = known c.with_one-frames.result c.with_one-shows.result with_frames
+    (one_value (codes "show") (codes "PLAN")) frames_is c.with_one-shows.ensures in
     let with_shows : App = with_subcommand with_frames (one_value (codes "show") (codes "PLAN")).top in
     let variants : App = value_and_values (codes "variant") (codes "PLAN") (codes "LABEL") in
     let variants_is = known c.with_one-shows.result c.with-variants.result with_shows variants shows_is
     (added c.with_one-shows.result c.with-variants.result c.variant.result variants c.variant.ensures.app c.with-variants.ensures) in
     let with_variants : App = with_subcommand with_shows variants.top in
-    let checks_is = known c.with-variants.result c.with_one-checks.result with_variants (one_value (codes "check") (codes "PLAN")) variants_is c.with_one-checks.ensures in
+    let checks_is = known c.with-variants.result c.with_one-checks.result with_variants
+    (one_value (codes "check") (codes "PLAN")) variants_is c.with_one-checks.ensures in
     let with_checks : App = with_subcommand with_variants (one_value (codes "check") (codes "PLAN")).top in
-    let addresses_is = known c.with_one-checks.result c.with_one-addresses.result with_checks (one_value (codes "addresses") (codes "PLAN")) checks_is c.with_one-addresses.ensures in
+    let addresses_is = known c.with_one-checks.result c.with_one-addresses.result with_checks
+    (one_value (codes "addresses") (codes "PLAN")) checks_is c.with_one-addresses.ensures in
     let with_addresses : App = with_subcommand with_checks (one_value (codes "addresses") (codes "PLAN")).top in
-    let loads_is = known c.with_one-addresses.result c.with_one-loads.result with_addresses (one_value (codes "load") (codes "PLAN")) addresses_is c.with_one-loads.ensures in
+    let loads_is = known c.with_one-addresses.result c.with_one-loads.result with_addresses
+    (one_value (codes "load") (codes "PLAN")) addresses_is c.with_one-loads.ensures in
     let with_loads : App = with_subcommand with_addresses (one_value (codes "load") (codes "PLAN")).top in
     let runs : App = two_values (codes "run") (codes "PLAN") (codes "SCHEDULE") in
     let runs_is = known c.with_one-loads.result c.with-runs.result with_loads runs loads_is

@@ -5,7 +5,8 @@ use Rattle.j39_id.specs.FrameMeaning.{cannot_claim, claims_address, requests_gro
 use Rattle.j39_id.specs.declared.frame.Frame.{Frame}
 use Rattle.j39_network.specs.declared.plan.Plan.{Plan}
 use Rattle.j39_follow.specs.Contests.{Timed}
-use Rattle.j39_follow.specs.FollowReports.{IsAnswerWay, IsAsked, IsNotice, IsWay, answer_line, asked_line, cannot_line, cannot_text, claim_line, claim_text, notice_text}
+use Rattle.j39_follow.specs.FollowReports.{IsAnswerWay, IsAsked, IsNotice, IsWay, answer_line, asked_line, cannot_line, cannot_text, claim_line, claim_text}
+use Rattle.j39_follow.specs.FollowReports.{notice_text}
 use Rattle.j39_follow.specs.LoggedRequests.{acknowledges}
 use Rattle.j39_follow.specs.declared.address.known_parties.Parties.{Parties}
 use Rattle.j39_follow.specs.inside.Contesting.{ShowsAsker, ShowsParties}
@@ -50,7 +51,8 @@ returns-then-claims_address c =
     (λ _ written. λ log shows asks.
     whichever_way plan c.args.parties.now log (front_of c.args.stamp) f _ _ (claim_line plan (front_of c.args.stamp) f) shows asks
     (λ way back asked. if_so (claims_address f) _ _ (sym c.claims_address.ensures ∙ c.if-claims_address.true))
-    (written ∙ ap (λ (name : ℕ). c.args.text.now ++ claim_text plan (front_of c.args.stamp) name f.ident.sa) (c.to_bits.ensures.value ∙ c.carried_name.ensures)))
+    (written ∙ ap (λ (name : ℕ). c.args.text.now ++ claim_text plan (front_of c.args.stamp) name f.ident.sa)
+    (c.to_bits.ensures.value ∙ c.carried_name.ensures)))
     c.write_claim.ensures
 
 pub returns-then-cannot_claim : goal.returns-then-cannot_claim

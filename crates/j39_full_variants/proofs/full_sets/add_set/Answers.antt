@@ -2,7 +2,8 @@ use Rattle.std.proofs.Common.{◌≡◌, ◌∷◌, ◌++◌, [], filter, map, n
 use Rattle.std.proofs.lemmas.List.{map-append}
 use Rattle.j39_full_variants.specs.SetVariants.{AreWidest, is_set_inside, with_each_choice}
 use Rattle.j39_full_variants.proofs.Widest.{add_inside, add_lacking, add_outside}
-use Rattle.j39_full_variants.proofs.full_sets.add_set.Goals.{then-not-has_each_choice-via-then-not-has_each_choice, then-not-has_each_choice-via-else-not-has_each_choice+then-is_inside_any}
+use Rattle.j39_full_variants.proofs.full_sets.add_set.Goals.{then-not-has_each_choice-via-then-not-has_each_choice}
+use Rattle.j39_full_variants.proofs.full_sets.add_set.Goals.{then-not-has_each_choice-via-else-not-has_each_choice+then-is_inside_any}
 use Rattle.j39_full_variants.proofs.full_sets.add_set.Goals as goal
 
 pub returns-then-not-has_each_choice : goal.returns-then-not-has_each_choice

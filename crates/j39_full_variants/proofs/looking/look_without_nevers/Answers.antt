@@ -10,7 +10,8 @@ none_left (x ∷ xs) is = absurd (omega (arith, is))
 
 pub returns-then-is_empty-clause-looking : goal.returns-then-is_empty-clause-looking
 returns-then-is_empty-clause-looking c many =
-    let found : AreFullVariants c.args.line.now LeftOut c.in-Few.found = subst (IsLookingWith c.args.line.now LeftOut) c.in-Few.is c.in_ok-found.ensures.looking in
+    let found : AreFullVariants c.args.line.now LeftOut c.in-Few.found = subst
+    (IsLookingWith c.args.line.now LeftOut) c.in-Few.is c.in_ok-found.ensures.looking in
     let reported = c.in-Few.found.reported in
     let none = eqb-true reported.len 0 (sym c.is_empty.ensures ∙ c.if-is_empty.true) in
     let good : has_bad_number c.args.line.now.plan ≡ false = sym c.in_ok-bad.ensures ∙ c.if-bad.false in
@@ -18,7 +19,8 @@ returns-then-is_empty-clause-looking c many =
 
 pub returns-else-is_empty-clause-looking : goal.returns-else-is_empty-clause-looking
 returns-else-is_empty-clause-looking c many =
-    let found : AreFullVariants c.args.line.now LeftOut c.in-Few.found = subst (IsLookingWith c.args.line.now LeftOut) c.in-Few.is c.in_ok-found.ensures.looking in
+    let found : AreFullVariants c.args.line.now LeftOut c.in-Few.found = subst
+    (IsLookingWith c.args.line.now LeftOut) c.in-Few.is c.in_ok-found.ensures.looking in
     let reported = c.in-Few.found.reported in (
       many,
       inr (inr (

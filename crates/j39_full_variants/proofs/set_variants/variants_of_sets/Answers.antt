@@ -21,7 +21,8 @@ loop-choice-preserved c =
     let vs : List (List ℕ) = map (λ v. v.items) c.loop-choice.all.items in
     let more : map (λ v. v.items) c.in_ok-all.all.items ≡ longer c.len.result vs = rw c.deref.ensures.value at c.in_ok-all.ensures in
     let kept : map (λ v. v.items) c.keep_begun-in-loop-choice.new.taken.items ≡ keep sets (longer c.len.result vs) =
-    ap (map (λ v. v.items)) c.keep_begun-in-loop-choice.ensures ∙ kept_of_sets (λ v. v.items) (λ s. s.items) c.args.sets.now c.in_ok-all.all.items ∙ ap (keep sets) more in
+    ap (map (λ v. v.items)) c.keep_begun-in-loop-choice.ensures ∙ kept_of_sets (λ v. v.items) (λ s. s.items) c.args.sets.now c.in_ok-all.all.items ∙ ap
+    (keep sets) more in
     next_begun sets c.args.choices.now c.loop-choice.choice-index c.choice-item.result vs
     (map (λ v. v.items) c.keep_begun-in-loop-choice.new.taken.items) c.loop-choice-test.true c.choice-item.is
     (kept ∙ ap (λ n. keep sets (longer n vs)) (c.len.ensures ∙ c.choice-item.result.alternatives.ok.0))

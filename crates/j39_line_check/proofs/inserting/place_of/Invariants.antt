@@ -8,4 +8,5 @@ abbrev pub decreases-loop-place : goal.decreases-loop-place
 decreases-loop-place l = l.place
 
 abbrev pub invariant-loop-place : goal.invariant-loop-place
-invariant-loop-place l = (l.place ≤ length l.reported) × ((t : ReportedFinding) → Contains (drop l.place l.reported) t → is_below (rank_of t.finding) l.rank ≡ false)
+invariant-loop-place l = (l.place ≤ length l.reported) × ((t : ReportedFinding) → Contains (drop l.place l.reported) t
+    → is_below (rank_of t.finding) l.rank ≡ false)

@@ -10,7 +10,8 @@ use Rattle.j39_line_findings.proofs.witnessed.add.Goals as goal
 
 pub returns-then-is_next : goal.returns-then-is_next
 returns-then-is_next c all best =
-    let before : (w : Witnessed) → IsWitnessAmong (take c.place_of-place.result c.args.reported.now.items) w → is_below (rank_in w) (rank_in c.args.new) ≡ true =
+    let before : (w : Witnessed) → IsWitnessAmong (take c.place_of-place.result c.args.reported.now.items) w
+    → is_below (rank_in w) (rank_in c.args.new) ≡ true =
     rw (c.deref.ensures.value, c.rank.ensures) at c.place_of-place.ensures.before in
     let next : c.place_of-place.result < length c.args.reported.now.items
     → is_below (rank_in c.args.new) (rank_in (get_or c.args.reported.now.items c.place_of-place.result c.args.new)) ≡ true =
@@ -29,8 +30,12 @@ reported_there reported one two p n r s is_one is_two is_r is_s behind less take
 
 pub returns-then-is_better : goal.returns-then-is_better
 returns-then-is_better c all best =
-    let (less, same) = reported_there c.args.reported.now.items _ _ c.place_of-place.result c.args.new _ _ c.deref.ensures.value c.deref-2.ensures.value c.rank.ensures
-    c.rank-2.ensures (c.place_of-place.ensures.behind c.args.new) (c.is_next.ensures.inside c.if-is_next.false) (c.is_next.ensures.taken c.args.new c.if-is_next.false) in
+    let (
+      less,
+      same,
+    ) = reported_there c.args.reported.now.items _ _ c.place_of-place.result c.args.new _ _ c.deref.ensures.value c.deref-2.ensures.value c.rank.ensures
+    c.rank-2.ensures (c.place_of-place.ensures.behind c.args.new) (c.is_next.ensures.inside c.if-is_next.false)
+    (c.is_next.ensures.taken c.args.new c.if-is_next.false) in
     let at = c.index.ensures ∙ get_or_default c.args.reported.now.items c.place_of-place.result c.index.result.now c.args.new less in
     let better = subst (λ w. is_better c.args.new w ≡ true) at (sym c.is_better.ensures ∙ c.if-is_better.true) in
     subst (λ xs. AreBest (all ++ c.args.new ∷ []) xs) (sym c.replace.ensures)
@@ -38,8 +43,12 @@ returns-then-is_better c all best =
 
 pub returns-else-is_better : goal.returns-else-is_better
 returns-else-is_better c all best =
-    let (less, same) = reported_there c.args.reported.now.items _ _ c.place_of-place.result c.args.new _ _ c.deref.ensures.value c.deref-2.ensures.value c.rank.ensures
-    c.rank-2.ensures (c.place_of-place.ensures.behind c.args.new) (c.is_next.ensures.inside c.if-is_next.false) (c.is_next.ensures.taken c.args.new c.if-is_next.false) in
+    let (
+      less,
+      same,
+    ) = reported_there c.args.reported.now.items _ _ c.place_of-place.result c.args.new _ _ c.deref.ensures.value c.deref-2.ensures.value c.rank.ensures
+    c.rank-2.ensures (c.place_of-place.ensures.behind c.args.new) (c.is_next.ensures.inside c.if-is_next.false)
+    (c.is_next.ensures.taken c.args.new c.if-is_next.false) in
     let at = c.index.ensures ∙ get_or_default c.args.reported.now.items c.place_of-place.result c.index.result.now c.args.new less in
     let worse = subst (λ w. is_better c.args.new w ≡ false) at (sym c.is_better.ensures ∙ c.if-is_better.false) in
     keep_at all c.args.reported.now.items c.place_of-place.result c.args.new best less same worse

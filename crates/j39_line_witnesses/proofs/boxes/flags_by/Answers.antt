@@ -16,8 +16,10 @@ loop-choice-preserved c =
     let k = c.loop-choice.choice in
     let old = c.loop-choice.flags.items in
     rw c.in_ok-push.ensures.items
-    (one_further (λ choice. choice.items) (λ n choice. flags_of_choice (box_test c.args.line.now c.args.test.now) n choice ∷ []) k c.args.line.now.choices.items c.reported-item.result []
+    (one_further (λ choice. choice.items) (λ n choice. flags_of_choice (box_test c.args.line.now c.args.test.now) n choice
+    ∷ []) k c.args.line.now.choices.items c.reported-item.result []
     old (old ++ c.in_ok-flags_of_choice.field-0 ∷ []) (rw c.deref-reported-items.ensures.value at c.loop-choice-test.true) c.loop-choice.invariant
     (map-append (λ choice. choice.items) old (c.in_ok-flags_of_choice.field-0 ∷ [])
     ∙ ap (λ (x : List Bool). box_flags old ++ x ∷ [])
-    (c.in_ok-flags_of_choice.ensures ∙ ap (λ (x : Choice). flags_of_choice (box_test c.args.line.now c.args.test.now) k x) (rw c.deref-reported-items.ensures.value at c.reported-item.is))))
+    (c.in_ok-flags_of_choice.ensures ∙ ap (λ (x : Choice). flags_of_choice (box_test c.args.line.now c.args.test.now) k x)
+    (rw c.deref-reported-items.ensures.value at c.reported-item.is))))

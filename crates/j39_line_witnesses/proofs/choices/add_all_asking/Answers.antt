@@ -12,6 +12,8 @@ loop-place-init c = sym (append-nil c.args.parts.now.items)
 
 pub loop-place-preserved : goal.loop-place-preserved
 loop-place-preserved c =
-    one_added (asking_part c.args.flow.now) c.loop-place.place c.args.requests.now c.index-requests-place.result c.args.parts.now.items c.loop-place.parts.items c.add_asking.new.parts.items
+    one_added
+    (asking_part c.args.flow.now) c.loop-place.place c.args.requests.now c.index-requests-place.result c.args.parts.now.items c.loop-place.parts.items c.add_asking.new.parts.items
     c.loop-place-test.true c.loop-place.invariant
-    (c.in_ok-add_asking.ensures ∙ ap (λ (x : RequestPlan). c.loop-place.parts.items ++ asking_part c.args.flow.now c.loop-place.place x) c.index-requests-place.is)
+    (c.in_ok-add_asking.ensures ∙ ap (λ (x : RequestPlan). c.loop-place.parts.items
+    ++ asking_part c.args.flow.now c.loop-place.place x) c.index-requests-place.is)

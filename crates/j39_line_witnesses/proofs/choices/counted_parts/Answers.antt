@@ -13,6 +13,9 @@ returns c =
     c.in_ok-add_all_counted.ensures
     ∙ ap (λ (xs : List LinePart). xs ++ lines_of_each (λ _ parts. counted_with line c.as_slice-together.result.now parts.items) 0 c.as_slice-lacking.result.now)
     (c.in_ok-counted.ensures ∙ c.as_slice-together.ensures.value)
-    ∙ ap (λ (xs : List LinePart). first ++ lines_of_each (λ _ parts. counted_with line xs parts.items) 0 c.as_slice-lacking.result.now) c.as_slice-together.ensures.value
-    ∙ ap (λ (lists : List (Vec LinePart Global)). first ++ lines_of_each (λ _ parts. counted_with line first parts.items) 0 lists) c.as_slice-lacking.ensures.value
-    ∙ ap (λ (xs : List LinePart). first ++ xs) (sym (lines_of_map (counted_with line first) (λ (parts : Vec LinePart Global). parts.items) 0 c.args.condition.now.lacking.items))
+    ∙ ap (λ (xs : List LinePart). first
+    ++ lines_of_each (λ _ parts. counted_with line xs parts.items) 0 c.as_slice-lacking.result.now) c.as_slice-together.ensures.value
+    ∙ ap (λ (lists : List (Vec LinePart Global)). first ++ lines_of_each
+    (λ _ parts. counted_with line first parts.items) 0 lists) c.as_slice-lacking.ensures.value
+    ∙ ap (λ (xs : List LinePart). first ++ xs) (sym (lines_of_map (counted_with line first)
+    (λ (parts : Vec LinePart Global). parts.items) 0 c.args.condition.now.lacking.items))

@@ -13,5 +13,9 @@ loop-answered-init c = ap conditions_in c.new-found.ensures.items
 
 pub loop-answered-preserved : goal.loop-answered-preserved
 loop-answered-preserved c =
-    one_further condition_of (astray_by c.args.line.now c.args.place (flow_test c.args.line.now.plan.groups.items c.args.one.now) (flow_test c.args.line.now.plan.groups.items c.args.other.now)) c.loop-answered.answered c.args.line.now.plan.flows.items c.flow-item.result [] c.loop-answered.found.items c.add_astray_by.new.found.items
-    (rw c.deref-flow-items.ensures.value at c.loop-answered-test.true) c.loop-answered.invariant (c.in_ok-add_astray_by.ensures ∙ ap (λ (x : FlowPlan). conditions_in c.loop-answered.found.items ++ (astray_by c.args.line.now c.args.place (flow_test c.args.line.now.plan.groups.items c.args.one.now) (flow_test c.args.line.now.plan.groups.items c.args.other.now)) c.loop-answered.answered x) (rw c.deref-flow-items.ensures.value at c.flow-item.is))
+    one_further condition_of (astray_by c.args.line.now c.args.place (flow_test c.args.line.now.plan.groups.items c.args.one.now)
+    (flow_test c.args.line.now.plan.groups.items c.args.other.now)) c.loop-answered.answered c.args.line.now.plan.flows.items c.flow-item.result [] c.loop-answered.found.items c.add_astray_by.new.found.items
+    (rw c.deref-flow-items.ensures.value at c.loop-answered-test.true) c.loop-answered.invariant
+    (c.in_ok-add_astray_by.ensures ∙ ap (λ (x : FlowPlan). conditions_in c.loop-answered.found.items
+    ++ (astray_by c.args.line.now c.args.place (flow_test c.args.line.now.plan.groups.items c.args.one.now)
+    (flow_test c.args.line.now.plan.groups.items c.args.other.now)) c.loop-answered.answered x) (rw c.deref-flow-items.ensures.value at c.flow-item.is))

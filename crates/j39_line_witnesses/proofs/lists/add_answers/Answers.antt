@@ -13,5 +13,7 @@ loop-asked-init c = sym (append-nil (parts_in c.args.found.now.items))
 
 pub loop-asked-preserved : goal.loop-asked-preserved
 loop-asked-preserved c =
-    one_further (λ parts. parts.items) (answer_with c.args.place c.args.flow.now) c.loop-asked.asked c.args.requests.now c.index-requests-asked.result (parts_in c.args.found.now.items) c.loop-asked.found.items c.add_answer.new.found.items
-    c.loop-asked-test.true c.loop-asked.invariant (c.in_ok-add_answer.ensures ∙ ap (λ (x : RequestPlan). parts_in c.loop-asked.found.items ++ (answer_with c.args.place c.args.flow.now) c.loop-asked.asked x) c.index-requests-asked.is)
+    one_further (λ parts. parts.items) (answer_with c.args.place c.args.flow.now) c.loop-asked.asked c.args.requests.now c.index-requests-asked.result
+    (parts_in c.args.found.now.items) c.loop-asked.found.items c.add_answer.new.found.items
+    c.loop-asked-test.true c.loop-asked.invariant (c.in_ok-add_answer.ensures ∙ ap
+    (λ (x : RequestPlan). parts_in c.loop-asked.found.items ++ (answer_with c.args.place c.args.flow.now) c.loop-asked.asked x) c.index-requests-asked.is)

@@ -13,5 +13,10 @@ loop-place-init c = ap parts_in c.new-found.ensures.items
 
 pub loop-place-preserved : goal.loop-place-preserved
 loop-place-preserved c =
-    one_further (λ parts. parts.items) (flow_where (flow_test c.args.line.now.plan.groups.items c.args.test.now)) c.loop-place.place c.args.line.now.plan.flows.items c.flow-item.result [] c.loop-place.found.items c.add_flow_where.new.found.items
-    (rw c.deref-flow-items.ensures.value at c.loop-place-test.true) c.loop-place.invariant (c.in_ok-add_flow_where.ensures ∙ ap (λ (x : FlowPlan). parts_in c.loop-place.found.items ++ (flow_where (flow_test c.args.line.now.plan.groups.items c.args.test.now)) c.loop-place.place x) (rw c.deref-flow-items.ensures.value at c.flow-item.is))
+    one_further (λ parts. parts.items)
+    (flow_where
+    (flow_test c.args.line.now.plan.groups.items c.args.test.now)) c.loop-place.place c.args.line.now.plan.flows.items c.flow-item.result [] c.loop-place.found.items c.add_flow_where.new.found.items
+    (rw c.deref-flow-items.ensures.value at c.loop-place-test.true) c.loop-place.invariant
+    (c.in_ok-add_flow_where.ensures ∙ ap (λ (x : FlowPlan). parts_in c.loop-place.found.items
+    ++ (flow_where (flow_test c.args.line.now.plan.groups.items c.args.test.now)) c.loop-place.place x)
+    (rw c.deref-flow-items.ensures.value at c.flow-item.is))

@@ -12,5 +12,8 @@ loop-place-init c = ap parts_in c.new-found.ensures.items
 
 pub loop-place-preserved : goal.loop-place-preserved
 loop-place-preserved c =
-    one_further (λ parts. parts.items) (source_parts c.args.line.now c.args.need.now) c.loop-place.place c.args.line.now.plan.flows.items c.flow-item.result [] c.loop-place.found.items c.add_source.new.found.items
-    (rw c.deref-flow-items.ensures.value at c.loop-place-test.true) c.loop-place.invariant (c.in_ok-add_source.ensures ∙ ap (λ (x : FlowPlan). parts_in c.loop-place.found.items ++ (source_parts c.args.line.now c.args.need.now) c.loop-place.place x) (rw c.deref-flow-items.ensures.value at c.flow-item.is))
+    one_further (λ parts. parts.items)
+    (source_parts c.args.line.now c.args.need.now) c.loop-place.place c.args.line.now.plan.flows.items c.flow-item.result [] c.loop-place.found.items c.add_source.new.found.items
+    (rw c.deref-flow-items.ensures.value at c.loop-place-test.true) c.loop-place.invariant
+    (c.in_ok-add_source.ensures ∙ ap (λ (x : FlowPlan). parts_in c.loop-place.found.items
+    ++ (source_parts c.args.line.now c.args.need.now) c.loop-place.place x) (rw c.deref-flow-items.ensures.value at c.flow-item.is))

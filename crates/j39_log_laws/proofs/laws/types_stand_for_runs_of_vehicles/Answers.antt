@@ -6,7 +6,8 @@ use Rattle.j39_log_laws.proofs.Logged.{each_goes}
 use Rattle.j39_log_laws.proofs.NamesReported.{all_named, next_named}
 use Rattle.j39_log_laws.proofs.SentFrames.{own_numbers}
 use Rattle.j39_log_laws.proofs.ReportedFlows.{reported_as_begun}
-use Rattle.j39_log_laws.proofs.VehicleRuns.{boxes_claim, boxes_keep_ends, distinct_boxes, each_goes_so, frames_report_so, messages_go_so, own_boxes, reported_so}
+use Rattle.j39_log_laws.proofs.VehicleRuns.{boxes_claim, boxes_keep_ends, distinct_boxes, each_goes_so, frames_report_so, messages_go_so, own_boxes}
+use Rattle.j39_log_laws.proofs.VehicleRuns.{reported_so}
 use Rattle.j39_log_laws.proofs.laws.types_stand_for_runs_of_vehicles.Goals as goal
 
 pub returns-clause-names : goal.returns-clause-names

@@ -13,7 +13,8 @@ returns-in_err-input-clause-answers g c =
 pub returns-in-Ok-clause-answers : goal.returns-in-Ok-clause-answers
 returns-in-Ok-clause-answers g c =
     let read = c.in_ok-input.ensures.whole in
-    answered c.in_ok-input.input.items [] (Some c.in-Ok.line) read.0 read.1 c.in_ok-input.ensures.limits (search rules) (none_taken _) (c.in_ok-input.ensures.calm (λ e. cc e), refl)
+    answered c.in_ok-input.input.items [] (Some c.in-Ok.line) read.0 read.1 c.in_ok-input.ensures.limits (search rules) (none_taken _)
+    (c.in_ok-input.ensures.calm (λ e. cc e), refl)
 
 pub returns-clause-answers : goal.returns-clause-answers
 returns-clause-answers g c =

@@ -31,4 +31,5 @@ returns-clause-answers g c =
 
 pub returns-clause-whole : goal.returns-clause-whole
 returns-clause-whole g c =
-    refused_whole c.args.plan.now (length c.args.choosers.items) c.in-Err.error c.in-Err.ensures.refused (g.S.Source.state c.args.source.now).left c.refuse.result c.refuse.ensures
+    refused_whole c.args.plan.now (length c.args.choosers.items) c.in-Err.error c.in-Err.ensures.refused
+    (g.S.Source.state c.args.source.now).left c.refuse.result c.refuse.ensures

@@ -11,5 +11,6 @@ are_messages Send flow bytes = tt
 
 pub returns-in-Err-OutOfMemory : goal.returns-in-Err-OutOfMemory
 returns-in-Err-OutOfMemory c =
-    message_ordered (message_order c.args.order) (are_messages c.args.order) c.args.plan.now c.args.number.now c.args.digits.now c.in-Some.number c.in-Some.ensures
+    message_ordered (message_order c.args.order)
+    (are_messages c.args.order) c.args.plan.now c.args.number.now c.args.digits.now c.in-Some.number c.in-Some.ensures
     (sym c.spell_bytes.ensures ∙ c.if-spell_bytes.true)

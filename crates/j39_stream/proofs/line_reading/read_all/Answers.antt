@@ -131,7 +131,8 @@ returns-in_err-put-clause-cut g c =
     let so = more_seen before.seen part c.loop-cutter.cutter.pending before.written before.pending
     (c.in_ok-read_piece.ensures.lines (yielded at_start before.seen) before.written before.so_far) in
     let text : List ℕ = g.R.LineReader.text c.read_piece.new.reader in
-    let read = subst (Consumes (g.S.Source.state c.args.source.now).left (g.S.Source.state c.pull.new.source).left) (sym (append-nil (before.seen ++ part))) next.consumed in
+    let read = subst (Consumes (g.S.Source.state c.args.source.now).left (g.S.Source.state c.pull.new.source).left)
+    (sym (append-nil (before.seen ++ part))) next.consumed in
     cut_short c.args.limits _ _ _ _
     (λ input t verdict is. before.texts input t verdict (c.in_ok-read_piece.ensures.texts input t verdict is))
     c.from_residual-in_err-put.result (λ e. search rules)
@@ -151,5 +152,6 @@ returns-then-count-eq0-clause-pieces g c =
 pub returns-clause-read : goal.returns-clause-read
 returns-clause-read g c =
     let before = c.loop-cutter.invariant in
-    read_to_stop c.loop-cutter.intake before.seen before.written (sym c.goes_on.ensures ∙ c.loop-cutter-test.false) before.so_far before.read before.calls before.taken
+    read_to_stop c.loop-cutter.intake before.seen before.written
+    (sym c.goes_on.ensures ∙ c.loop-cutter-test.false) before.so_far before.read before.calls before.taken
     (before.source, before.sink)

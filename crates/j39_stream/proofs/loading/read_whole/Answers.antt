@@ -22,6 +22,7 @@ loop-input-preserved g c =
     let read = c.in_ok-count.ensures.more plan_limits (g.S.Source.state c.args.source.now) c.loop-input.input.items
     c.loop-input.invariant.0 some in
     let kept : c.extend_from_slice.new.self.items ≡ text = search rules in (
-      subst (λ (bytes : List ℕ). HasRead plan_limits (g.S.Source.state c.args.source.now) (g.S.Source.state c.pull.new.source) c.pull.new.self bytes) (sym kept) read,
+      subst (λ (bytes : List ℕ). HasRead plan_limits (g.S.Source.state c.args.source.now) (g.S.Source.state c.pull.new.source) c.pull.new.self bytes)
+          (sym kept) read,
       c.in_ok-count.ensures.calm (λ e. cc e) ∙ c.loop-input.invariant.1,
     )

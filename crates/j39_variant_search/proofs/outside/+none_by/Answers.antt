@@ -18,7 +18,8 @@ returns-then-is_empty_box t c =
 pub returns-then-is_empty : goal.returns-then-is_empty
 returns-then-is_empty t c =
     let nothing : length c.in_ok-met.met.items ≡ 0 = search rules in
-    none_met c.args.within.now c.args.holes.now c.args.near.now c.in_ok-met.met.items c.in_ok-met.ensures nothing (sym c.is_empty_box.ensures ∙ c.if-is_empty_box.false)
+    none_met c.args.within.now c.args.holes.now c.args.near.now c.in_ok-met.met.items c.in_ok-met.ensures nothing
+    (sym c.is_empty_box.ensures ∙ c.if-is_empty_box.false)
 
 pub loop-choice-init : goal.loop-choice-init
 loop-choice-init t c = rw c.in_ok-by.ensures (none_to_start c.args.whole.now c.args.within.now c.hole_at-hole.result.now c.args.holes.now c.in_ok-met.met.items)
@@ -33,7 +34,8 @@ none_by-requires t c =
     ∙ one_met c.args.within.now c.args.holes.now c.args.near.now c.in_ok-met.met.items c.in_ok-met.ensures c.nearest.result below in
     let less : box_count (box_flags c.in_ok-part.part.items) < box_count (box_flags c.args.within.now) =
     part_less c.args.within.now c.hole_at-hole.result.now meets c.loop-choice.choice c.in_ok-part.part.items (omega arith) c.in_ok-part.ensures in
-    let fewer : box_count (box_flags c.deref-then-is_left_at.result.now) < box_count (box_flags c.args.within.now) = rw c.deref-then-is_left_at.ensures.value less in
+    let fewer : box_count (box_flags c.deref-then-is_left_at.result.now) < box_count
+    (box_flags c.args.within.now) = rw c.deref-then-is_left_at.ensures.value less in
     let n = length-map c.args.within.now (λ choice. choice.items) in
     let m = length-map c.in_ok-part.part.items (λ choice. choice.items) in
     let e = c.in_ok-part.ensures.of_each in

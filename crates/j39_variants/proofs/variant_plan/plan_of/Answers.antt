@@ -1,6 +1,7 @@
 use Rattle.j39_network.specs.PlanLimits.{flow_limit, need_limit, request_limit}
 use Rattle.j39_variants.specs.VariantPlans.{flags, group_places, moved_flow, moved_need, moved_request, unit_places}
-use Rattle.j39_variants.proofs.Derived.{AreFlows, AreGroups, AreNeeds, AreRequests, AreUnits, few_groups, few_moved, few_units, flows_inside, groups_of_needs, labels_of_groups}
+use Rattle.j39_variants.proofs.Derived.{AreFlows, AreGroups, AreNeeds, AreRequests, AreUnits, few_groups, few_moved, few_units, flows_inside, groups_of_needs}
+use Rattle.j39_variants.proofs.Derived.{labels_of_groups}
 use Rattle.j39_variants.proofs.Derived.{labels_of_units, requests_inside, senders_of_needs, signals_of_needs, units_of_needs}
 use Rattle.j39_variants.proofs.variant_plan.plan_of.Goals as goal
 
@@ -44,7 +45,8 @@ invariant_of-result c =
           few_moved line v (moved_need (unit_places line v) (group_places line v)) (flags v line.lists.needs.items) line.plan.needs.items ds need_limit needs
           line.plan.need_count;
       request_count =
-          few_moved line v (moved_request (unit_places line v) (group_places line v)) (flags v line.lists.requests.items) line.plan.requests.items rs request_limit
+          few_moved line v (moved_request (unit_places line v) (group_places line v))
+          (flags v line.lists.requests.items) line.plan.requests.items rs request_limit
           requests line.plan.request_count;
       unit_labels = labels_of_units line v us units;
       group_labels = labels_of_groups line v gs groups;

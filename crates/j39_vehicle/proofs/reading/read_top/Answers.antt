@@ -49,7 +49,8 @@ returns-in_err-gateways c =
     let bus_names = rw a.0 at c.in_ok-buses.ensures.labels in
     let bs = map named_bus c.in_ok-buses.buses.items in
     let ds = items_view c.in_ok-arrays.arrays.gateways.now in
-    let stated : FailsGrowing (EachGrows (gateway_faults bs) (GatewayGrows bs) ds) c.in_err-gateways.field-0.0 (each_faults (gateway_faults bs) gateway_name 0 [] ds) =
+    let stated : FailsGrowing (EachGrows (gateway_faults bs) (GatewayGrows bs) ds) c.in_err-gateways.field-0.0
+    (each_faults (gateway_faults bs) gateway_name 0 [] ds) =
     rw c.deref.ensures.value at c.in_err-gateways.ensures.gives in
     let fails = rw (bus_names, a.1) at stated in
     rw (p.1, p.2, c.in_ok-arrays.ensures.0, no_buses)
@@ -60,10 +61,12 @@ returns-in_err-forwards c =
     let p = err_from_is_err_and c.from_residual-in_err-forwards.result c.from_residual-in_err-forwards.ensures.1 in
     let a = c.in_ok-arrays.ensures.1 in
     let gs = map named_gateway c.in_ok-gateways.gateways.items in
-    let read = gateways_read (table_view c.args.members.now) _ _ (map named_bus c.in_ok-buses.buses.items) gs a.0 a.1 c.in_ok-buses.ensures.gives.0 c.in_ok-buses.ensures.labels
+    let read = gateways_read (table_view c.args.members.now) _ _
+    (map named_bus c.in_ok-buses.buses.items) gs a.0 a.1 c.in_ok-buses.ensures.gives.0 c.in_ok-buses.ensures.labels
     (rw c.deref.ensures.value at c.in_ok-gateways.ensures.gives.0) c.in_ok-gateways.ensures.labels in
     let fs = items_view c.in_ok-arrays.arrays.forwards.now in
-    let stated : FailsGrowing (EachGrows (λ i seen. forward_faults gs i) (ForwardGrows gs) fs) c.in_err-forwards.field-0.0 (each_faults (λ i seen. forward_faults gs i) no_name 0 [] fs) =
+    let stated : FailsGrowing (EachGrows (λ i seen. forward_faults gs i) (ForwardGrows gs) fs) c.in_err-forwards.field-0.0
+    (each_faults (λ i seen. forward_faults gs i) no_name 0 [] fs) =
     rw c.deref-2.ensures.value at c.in_err-forwards.ensures.gives in
     let fails = rw (read.gateway_names, a.2) at stated in
     rw (p.1, p.2, c.in_ok-arrays.ensures.0, read.no_buses, read.no_gateways)
@@ -74,11 +77,13 @@ returns-in_err-needs c =
     let p = err_from_is_err_and c.from_residual-in_err-needs.result c.from_residual-in_err-needs.ensures.1 in
     let a = c.in_ok-arrays.ensures.1 in
     let bs = map named_bus c.in_ok-buses.buses.items in
-    let read = gateways_read (table_view c.args.members.now) _ _ bs (map named_gateway c.in_ok-gateways.gateways.items) a.0 a.1 c.in_ok-buses.ensures.gives.0 c.in_ok-buses.ensures.labels
+    let read = gateways_read (table_view c.args.members.now) _ _ bs
+    (map named_gateway c.in_ok-gateways.gateways.items) a.0 a.1 c.in_ok-buses.ensures.gives.0 c.in_ok-buses.ensures.labels
     (rw c.deref.ensures.value at c.in_ok-gateways.ensures.gives.0) c.in_ok-gateways.ensures.labels in
     let no_forwards = forwards_read _ _ _ _ read a.2 (rw c.deref-2.ensures.value at c.in_ok-forwards.ensures.gives.0) in
     let ns = items_view c.in_ok-arrays.arrays.needs.now in
-    let stated : FailsGrowing (EachGrows (λ i seen. need_faults bs i) (NeedGrows bs) ns) c.in_err-needs.field-0.0 (each_faults (λ i seen. need_faults bs i) no_name 0 [] ns) =
+    let stated : FailsGrowing (EachGrows (λ i seen. need_faults bs i) (NeedGrows bs) ns) c.in_err-needs.field-0.0
+    (each_faults (λ i seen. need_faults bs i) no_name 0 [] ns) =
     rw c.deref-3.ensures.value at c.in_err-needs.ensures.gives in
     let fails = rw (read.bus_names, a.3) at stated in
     rw (p.1, p.2, c.in_ok-arrays.ensures.0, read.no_buses, read.no_gateways, no_forwards)
@@ -88,7 +93,8 @@ pub returns : goal.returns
 returns c =
     let a = c.in_ok-arrays.ensures.1 in
     let bs = map named_bus c.in_ok-buses.buses.items in
-    let read = gateways_read (table_view c.args.members.now) _ _ bs (map named_gateway c.in_ok-gateways.gateways.items) a.0 a.1 c.in_ok-buses.ensures.gives.0 c.in_ok-buses.ensures.labels
+    let read = gateways_read (table_view c.args.members.now) _ _ bs
+    (map named_gateway c.in_ok-gateways.gateways.items) a.0 a.1 c.in_ok-buses.ensures.gives.0 c.in_ok-buses.ensures.labels
     (rw c.deref.ensures.value at c.in_ok-gateways.ensures.gives.0) c.in_ok-gateways.ensures.labels in
     let no_forwards = forwards_read _ _ _ _ read a.2 (rw c.deref-2.ensures.value at c.in_ok-forwards.ensures.gives.0) in
     let ns = items_view c.in_ok-arrays.arrays.needs.now in

@@ -23,7 +23,8 @@ returns c = λ a recalls.
       size = before.size ∙ recalls.size;
       asked = record {
         places = λ u. elim (cases_lt u c.loop-unit.unit) [
-          | inl less ↦ before.before u less ∙ ap (λ (o : Option ClaimRequest). option_or o (if is_asked_to_claim s k f u then Some r else None)) (recalls.asked.places u)
+          | inl less ↦ before.before u less ∙ ap (λ (o : Option ClaimRequest). option_or o (if is_asked_to_claim s k f u then Some r else None))
+              (recalls.asked.places u)
           | inr past ↦ before.behind u past ∙ recalls.asked.places u
               ∙ as_before (a.asked u) (is_asked_to_claim s k f u) r (never_asked s k f u (omega (arith, past, done, count, size, units)))
         ];

@@ -26,7 +26,8 @@ pub returns-in-BadIdent-clause-fault : goal.returns-in-BadIdent-clause-fault
 returns-in-BadIdent-clause-fault c =
     IfOk-weaker c.take_bad-in-BadIdent.result _ _
     (λ _ took. λ past recalls.
-    subst (λ (e : LineError). RecallsAudit c.take_bad-in-BadIdent.new.self (passed_by (settings_of c.take_bad-in-BadIdent.new.self.basis) e past)) (sym c.in-BadIdent.is)
+    subst (λ (e : LineError). RecallsAudit c.take_bad-in-BadIdent.new.self (passed_by (settings_of c.take_bad-in-BadIdent.new.self.basis) e past))
+    (sym c.in-BadIdent.is)
     (took past recalls))
     c.take_bad-in-BadIdent.ensures.fault
 
@@ -34,7 +35,8 @@ pub returns-in-TooLong-clause-fault : goal.returns-in-TooLong-clause-fault
 returns-in-TooLong-clause-fault c =
     IfOk-weaker c.take_bad-in-TooLong.result _ _
     (λ _ took. λ past recalls.
-    subst (λ (e : LineError). RecallsAudit c.take_bad-in-TooLong.new.self (passed_by (settings_of c.take_bad-in-TooLong.new.self.basis) e past)) (sym c.in-TooLong.is)
+    subst (λ (e : LineError). RecallsAudit c.take_bad-in-TooLong.new.self (passed_by (settings_of c.take_bad-in-TooLong.new.self.basis) e past))
+    (sym c.in-TooLong.is)
     (took past recalls))
     c.take_bad-in-TooLong.ensures.fault
 
@@ -42,6 +44,7 @@ pub returns-in-BadData-clause-fault : goal.returns-in-BadData-clause-fault
 returns-in-BadData-clause-fault c =
     IfOk-weaker c.take_bad-in-BadData.result _ _
     (λ _ took. λ past recalls.
-    subst (λ (e : LineError). RecallsAudit c.take_bad-in-BadData.new.self (passed_by (settings_of c.take_bad-in-BadData.new.self.basis) e past)) (sym c.in-BadData.is)
+    subst (λ (e : LineError). RecallsAudit c.take_bad-in-BadData.new.self (passed_by (settings_of c.take_bad-in-BadData.new.self.basis) e past))
+    (sym c.in-BadData.is)
     (took past recalls))
     c.take_bad-in-BadData.ensures.fault

@@ -16,7 +16,8 @@ returns-clause-fault c = λ past recalls.
       follows = record {
         knows = recalls.follows.knows;
         counted = subst (λ (n : ℕ). AreCounted new (past.noted ++ noted_if (nat_lt 0 past.frames) (noted_at n Short 0 0))) recalls.number_is
-            (subst (λ (k : Mark). AreCounted new (past.noted ++ noted_if (nat_lt 0 past.frames) (record { mark = k; line = number; detail = 0 }))) c.make_mark.ensures
+            (subst (λ (k : Mark). AreCounted new (past.noted ++ noted_if (nat_lt 0 past.frames)
+            (record { mark = k; line = number; detail = 0 }))) c.make_mark.ensures
             (subst (λ (b : Bool). AreCounted new (past.noted ++ noted_if b (record { mark = c.make_mark.result; line = number; detail = 0 }))) frames
             (c.in_ok-note_if.ensures.counts past.noted recalls.follows.counted)));
         newest_is = recalls.follows.newest_is;

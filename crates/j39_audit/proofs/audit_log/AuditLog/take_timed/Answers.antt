@@ -27,7 +27,8 @@ use Rattle.j39_audit.proofs.Knowing.{known_knowledge}
 use Rattle.j39_audit.proofs.Noting.{notes_both}
 use Rattle.j39_audit.proofs.audit_log.AuditLog.take_timed.Goals as goal
 
-packet_of : (f : Frame) (found : Option Packet) → IfSome found (λ p. IsPacket f p × InRange p) → IfNone found ((p : Packet) → ¬ IsPacket f p) → IsPacketOf f found
+packet_of : (f : Frame) (found : Option Packet) → IfSome found (λ p. IsPacket f p × InRange p) → IfNone found ((p : Packet) → ¬ IsPacket f p)
+    → IsPacketOf f found
 packet_of f None some none = none
 packet_of f (Some p) some none = some.0
 
@@ -68,7 +69,8 @@ returns-clause-frame c =
     } in
     let times : Knowledge → Knowledge → Bool → Bool → Ending → Option Announcement → ℕ → AuditPast = λ k l b a e x n.
     times_behind s l b a time f n (lines n) e x (there k b a e n) in
-    let took_times = c.in_ok-take_times.ensures.times (there _ c.ends_gap-gap.result c.begins_anew-anew.result c.ending_of-ending.result number_now) (lines number_now)
+    let took_times = c.in_ok-take_times.ensures.times (there _ c.ends_gap-gap.result c.begins_anew-anew.result c.ending_of-ending.result number_now)
+    (lines number_now)
     (record {
       moments = accords.moments;
       by_load = accords.by_load;

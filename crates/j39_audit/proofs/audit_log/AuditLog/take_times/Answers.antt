@@ -21,7 +21,8 @@ returns-clause-times c = λ past noted before sights unclear.
     let packed = c.take_packet.new.moments in
     let begun = c.take_packet.new.broadcasts in
     record {
-      moments = subst (λ (u : Option ℕ). RecallsMoments packed (with_packet_stream s c.args.time line (packet_with s.plan.timing u f past.broadcasts) timed)) unit
+      moments = subst (λ (u : Option ℕ). RecallsMoments packed (with_packet_stream s c.args.time line
+          (packet_with s.plan.timing u f past.broadcasts) timed)) unit
           (c.in_ok-take_packet.ensures.moments timed past.broadcasts looked before.broadcasts);
       by_load = subst (λ (t : Settings). RecallsMoments c.look-2.new.self
           (moments_behind t c.args.gap c.args.anew c.args.time f line noted c.args.ending past.by_load)) c.by_load.ensures

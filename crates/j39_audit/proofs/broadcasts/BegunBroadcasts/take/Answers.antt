@@ -14,7 +14,8 @@ pub returns-in_default : goal.returns-in_default
 unfolding broadcasts_behind
 returns-in_default c = λ b recalls.
     subst (λ (t : Option Timing). RecallsBroadcasts (settings_of c.args.basis.now) c.args.self.now
-    (broadcasts_with_frame (settings_of c.args.basis.now) (known_by c.args.known.now) t c.args.unit c.args.frame.now c.args.announced c.args.time c.args.idle c.args.line b))
+    (broadcasts_with_frame (settings_of c.args.basis.now)
+    (known_by c.args.known.now) t c.args.unit c.args.frame.now c.args.announced c.args.time c.args.idle c.args.line b))
     (sym c.in_default.is) recalls
 
 pub returns-in_default-unit : goal.returns-in_default-unit
@@ -24,8 +25,10 @@ returns-in_default-unit c = λ b recalls.
     let k = known_by c.args.known.now in
     let kept = c.args.self.now in
     let f = c.args.frame.now in
-    subst (λ (t : Option Timing). RecallsBroadcasts s kept (broadcasts_with_frame s k t c.args.unit f c.args.announced c.args.time c.args.idle c.args.line b)) (sym c.in-Some.is)
-    (subst (λ (u : Option ℕ). RecallsBroadcasts s kept (broadcasts_with_frame s k (Some c.in-Some.timing) u f c.args.announced c.args.time c.args.idle c.args.line b))
+    subst (λ (t : Option Timing). RecallsBroadcasts s kept (broadcasts_with_frame s k t c.args.unit f c.args.announced c.args.time c.args.idle c.args.line b))
+    (sym c.in-Some.is)
+    (subst (λ (u : Option ℕ). RecallsBroadcasts s kept (broadcasts_with_frame s k
+    (Some c.in-Some.timing) u f c.args.announced c.args.time c.args.idle c.args.line b))
     (sym c.in_default-unit.is) recalls)
 
 pub returns-in_default-time : goal.returns-in_default-time
@@ -36,9 +39,12 @@ returns-in_default-time c = λ b recalls.
     let kept = c.args.self.now in
     let f = c.args.frame.now in
     let t = c.in-Some.timing in
-    subst (λ (t : Option Timing). RecallsBroadcasts s kept (broadcasts_with_frame s k t c.args.unit f c.args.announced c.args.time c.args.idle c.args.line b)) (sym c.in-Some.is)
-    (subst (λ (u : Option ℕ). RecallsBroadcasts s kept (broadcasts_with_frame s k (Some t) u f c.args.announced c.args.time c.args.idle c.args.line b)) (sym c.in-Some-unit.is)
-    (subst (λ (o : Option ℕ). RecallsBroadcasts s kept (broadcasts_with_frame s k (Some t) (Some c.in-Some-unit.unit) f c.args.announced o c.args.idle c.args.line b))
+    subst (λ (t : Option Timing). RecallsBroadcasts s kept (broadcasts_with_frame s k t c.args.unit f c.args.announced c.args.time c.args.idle c.args.line b))
+    (sym c.in-Some.is)
+    (subst (λ (u : Option ℕ). RecallsBroadcasts s kept (broadcasts_with_frame s k (Some t) u f c.args.announced c.args.time c.args.idle c.args.line b))
+    (sym c.in-Some-unit.is)
+    (subst (λ (o : Option ℕ). RecallsBroadcasts s kept (broadcasts_with_frame s k (Some t)
+    (Some c.in-Some-unit.unit) f c.args.announced o c.args.idle c.args.line b))
     (sym c.in_default-time.is) recalls))
 
 pub returns-then-unit-len : goal.returns-then-unit-len

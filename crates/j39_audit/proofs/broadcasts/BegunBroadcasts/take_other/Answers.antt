@@ -16,6 +16,7 @@ returns-then-is_packet_to_all c =
     let one = c.in-Some.one in
     let here : b.begun u ≡ Some one = sym (recalls.begun.places u) ∙ sym c.kept_at.ensures ∙ c.in-Some.is in
     let is : is_packet_to_all c.args.frame.now ≡ _ = sym c.is_packet_to_all.ensures ∙ c.if-is_packet_to_all.true in
-    subst (λ (o : Option BegunBroadcast). RecallsBroadcasts s new (with_sent s k t u c.args.frame.now c.args.idle c.args.moment c.args.line None o b)) (sym here)
+    subst (λ (o : Option BegunBroadcast). RecallsBroadcasts s new (with_sent s k t u c.args.frame.now c.args.idle c.args.moment c.args.line None o b))
+    (sym here)
     (subst (λ (is : Bool). RecallsBroadcasts s new (cond is (with_packet t u c.args.idle c.args.moment c.args.line one b) b)) (sym is) (took b recalls)))
     c.take_packet.ensures

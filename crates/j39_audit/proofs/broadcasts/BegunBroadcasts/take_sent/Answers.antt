@@ -15,7 +15,8 @@ returns-in-Some c = λ b recalls.
     let is : announced_to_all u f c.args.announced ≡ Some (sent_as c.in-Some.message) =
     sym c.announced_to_all.ensures ∙ ap (λ (o : Option UnitMessage). option_map sent_as o) c.in-Some.is in
     subst (λ (m : Option SentMessage). RecallsBroadcasts s c.take_announced.new.self
-    (with_sent s (known_by c.args.known.now) c.args.timing u f c.args.idle c.args.moment c.args.line m (b.begun u) b)) (sym is) (c.take_announced.ensures b recalls)
+    (with_sent s (known_by c.args.known.now) c.args.timing u f c.args.idle c.args.moment c.args.line m (b.begun u) b)) (sym is)
+    (c.take_announced.ensures b recalls)
 
 pub returns-in-None : goal.returns-in-None
 returns-in-None c =

@@ -1,4 +1,5 @@
-use Rattle.std.proofs.Common.{◌≡◌, ◌<◌, ◌+◌, ◌*◌, ◌&&◌, ℕ, Bool, Option, Some, None, false, Vec, Global, length, slice_index_or, sym, ap, subst, ◌∙◌, arith, inl, inr}
+use Rattle.std.proofs.Common.{◌≡◌, ◌<◌, ◌+◌, ◌*◌, ◌&&◌, ℕ, Bool, Option, Some, None, false, Vec, Global, length, slice_index_or, sym, ap, subst, ◌∙◌, arith}
+use Rattle.std.proofs.Common.{inl, inr}
 use Rattle.std.specs.Prelude.{nat_lt}
 use Rattle.std.proofs.lemmas.Bool.{cases_eq}
 use Rattle.j39_audit.specs.Claiming.{smaller_name, with_claim}
@@ -45,13 +46,15 @@ returns-in-Some c = λ claims knows.
       taken = λ a. ap (λ (t : Vec Bool Global). slice_index_or t.items a false) taken ∙ knows.taken a;
       least = λ a. ap (λ (t : Vec (Option ℕ) Global). slice_index_or t.items a None) least
           ∙ heard_least source name a _ claims.all _ _ (λ apart. named.others a (λ e. apart (sym e)))
-          (λ same. subst (λ (b : ℕ). least_in c.note_name.new.self b ≡ Some (smaller_name name (least_in c.args.self.now b))) same (named.here knows.least_size)) (knows.least a);
+          (λ same. subst (λ (b : ℕ). least_in c.note_name.new.self b ≡ Some (smaller_name name (least_in c.args.self.now b))) same
+          (named.here knows.least_size)) (knows.least a);
       claimed = λ u a. claimed_more u a v source name claims.all new.claimed.items c.args.self.now.claimed.items below (
         claimed.here unit (omega (arith, unit, below, row, rows)),
         λ i other. claimed.others i other ∙ ap (λ (t : Vec Bool Global). slice_index_or t.items i false) (reported_in.claimed ∙ named.claimed),
       )
           (knows.claimed u a);
-      requests = still_requested c.args.self.now.requests new.requests claims.requests (claimed.requests ∙ reported_in.requests ∙ named.requests) knows.requests;
+      requests = still_requested c.args.self.now.requests new.requests claims.requests
+          (claimed.requests ∙ reported_in.requests ∙ named.requests) knows.requests;
       time = ap (λ (r : Requests). r.time) (claimed.requests ∙ reported_in.requests ∙ named.requests) ∙ knows.time;
     })
 
@@ -85,7 +88,8 @@ returns-in-None c = λ claims knows.
       ];
       least = λ a. ap (λ (t : Vec (Option ℕ) Global). slice_index_or t.items a None) reported_in.least
           ∙ heard_least source name a _ claims.all _ _ (λ apart. named.others a (λ e. apart (sym e)))
-          (λ same. subst (λ (b : ℕ). least_in old b ≡ Some (smaller_name name (least_in c.args.self.now b))) same (named.here knows.least_size)) (knows.least a);
+          (λ same. subst (λ (b : ℕ). least_in old b ≡ Some (smaller_name name (least_in c.args.self.now b))) same (named.here knows.least_size))
+          (knows.least a);
       claimed = λ u a. claimed_same u a source name claims.all _
           (ap (λ (t : Vec Bool Global). nat_lt a 256 && slice_index_or t.items (u * 256 + a) false) claimed ∙ knows.claimed u a);
       requests = still_requested c.args.self.now.requests new.requests claims.requests (reported_in.requests ∙ named.requests) knows.requests;

@@ -27,6 +27,7 @@ returns c =
     let end : c.loop-at.at ≡ length c.args.places.now = omega (arith, done) in
     record {
       near = before.near;
-      moments = λ m recalls. subst (λ (n : ℕ). RecallsMoments c.loop-at.self (listed_pauses_ended (settings_of c.args.basis.now) c.args.timing c.args.places.now n m)) end
+      moments = λ m recalls. subst (λ (n : ℕ). RecallsMoments c.loop-at.self
+          (listed_pauses_ended (settings_of c.args.basis.now) c.args.timing c.args.places.now n m)) end
           (before.moments m recalls);
     }

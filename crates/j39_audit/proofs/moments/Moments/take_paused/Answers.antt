@@ -37,7 +37,8 @@ returns-clause-moments c = λ m recalls.
     let kept = c.keep_at.ensures in
     let make : ℕ → Option Newest = λ k. Some (record { moment = k; line = c.args.line }) in
     recalls_with recalls
-    (subst (λ (x : Option Newest). AreCounted c.note_silent.new.untimely (m.untimely ++ silent_noted place x (lag pause (newest_moment found) window.lower))) newest
+    (subst (λ (x : Option Newest). AreCounted c.note_silent.new.untimely
+    (m.untimely ++ silent_noted place x (lag pause (newest_moment found) window.lower))) newest
     (subst (λ (b : Option ℕ). AreCounted c.note_silent.new.untimely (m.untimely ++ silent_noted place c.newest-newest.result b)) by
     (c.in_ok-note_silent.ensures.counts m.untimely recalls.counted)))
     (kept_more place kept.others _ (kept.here ∙ ap make moment) recalls.pauses.newest)

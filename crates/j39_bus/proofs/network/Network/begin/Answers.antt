@@ -16,5 +16,6 @@ returns-clause-steps c =
     steps_by_flow c.args.self.now c.prepare.new.self c.prepare.ensures.same c.args.place c.in_ok-flow.flow c.in_ok-flow.ensures.flow
     (Begin c.args.place c.args.bytes.now) (λ n w o. BeginsAt n w c.args.place o c.args.bytes.now.items) (λ plan w x goes. goes)
     c.start.new.self (λ h. has_begun h c.args.place c.in_ok-flow.flow c.in_ok-flow.targets.items c.as_slice.result.now) (λ h. refl)
-    (λ h. c.start.ensures.world h ∙ ap (begins (length c.prepare.new.self.claimers.items) (world_in h c.prepare.new.self) c.args.place c.in_ok-flow.flow) c.as_slice.ensures.value)
+    (λ h. c.start.ensures.world h ∙ ap (begins (length c.prepare.new.self.claimers.items)
+    (world_in h c.prepare.new.self) c.args.place c.in_ok-flow.flow) c.as_slice.ensures.value)
     c.start.ensures.receivers

@@ -40,7 +40,8 @@ returns-in-Some-answer-clause-network g c =
     record {
       claims = well_stated new c.pop.new.self.lists well c.send_to_others.new.self.claimers.items c.send_to_others.new.self.claims.lists
           (ap (λ v. v.items) c.send_to_others.ensures.claimers) c.send_to_others.ensures.table;
-      traffic = stated_traffic c.send_to_others.new.self (record c.args.self.now { claimers = c.hear-answer.new.claimers; claims = c.pop.new.self }) c.send_to_others.ensures.rest
+      traffic = stated_traffic c.send_to_others.new.self (record c.args.self.now
+          { claimers = c.hear-answer.new.claimers; claims = c.pop.new.self }) c.send_to_others.ensures.rest
           (length cs)
           (ap length (ap (λ v. v.items) c.send_to_others.ensures.claimers) ∙ ap length rule.1
           ∙ length-set cs c.args.to (record (get_or cs c.args.to absent_unit) { state = rule.0 }))

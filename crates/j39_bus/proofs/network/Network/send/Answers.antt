@@ -16,5 +16,6 @@ returns-clause-steps c =
     steps_by_flow c.args.self.now c.prepare.new.self c.prepare.ensures.same c.args.place c.in_ok-flow.flow c.in_ok-flow.ensures.flow
     (Send c.args.place c.args.bytes.now) (λ n w o. SendsAt n w c.args.place o c.args.bytes.now.items) (λ plan w x goes. goes)
     c.send_frame.new.self (λ h. has_sent h c.args.place c.in_ok-flow.flow c.as_slice-2.result.now c.as_slice.result.now) (λ h. refl)
-    (λ h. c.send_frame.ensures.world h ∙ ap (sends_alone (length c.prepare.new.self.claimers.items) (world_in h c.prepare.new.self) c.args.place c.in_ok-flow.flow) c.as_slice.ensures.value)
+    (λ h. c.send_frame.ensures.world h ∙ ap (sends_alone (length c.prepare.new.self.claimers.items)
+    (world_in h c.prepare.new.self) c.args.place c.in_ok-flow.flow) c.as_slice.ensures.value)
     c.send_frame.ensures.receivers

@@ -22,7 +22,8 @@ returns-in-Some-clause-network c =
     (ap (λ (k : ClaimerValue). k.state.notes) c.start-first.ensures.started)
     c.clear_to.new.self.lists c.clear_to.ensures.table in
     record {
-      claims = well_stated (set cs c.args.unit new) c.clear_to.new.self.lists well c.send_to_others.new.self.claimers.items c.send_to_others.new.self.claims.lists
+      claims = well_stated
+          (set cs c.args.unit new) c.clear_to.new.self.lists well c.send_to_others.new.self.claimers.items c.send_to_others.new.self.claims.lists
           (ap (λ v. v.items) c.send_to_others.ensures.claimers) c.send_to_others.ensures.table;
       traffic = stated_traffic c.send_to_others.new.self
           (record c.args.self.now { claimers = with_item c.args.self.now.claimers c.args.unit new; claims = c.clear_to.new.self; wire = c.clear_to-2.new.self })

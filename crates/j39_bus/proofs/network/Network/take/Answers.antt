@@ -12,7 +12,10 @@ returns-clause-steps c =
     on_ok_weaker {P = TakesOldest net c.args.from c.args.to c.take_item.new.self} c.take_item.result
     (λ takes. record {
       of_plan = λ plan planned h held.
-          let (after, taken, has) = takes h held in
-          (after, subst (λ (ws : List ℕ). TakenFrom ws (world_in h net) c.args.from c.args.to list (world_in after c.take_item.new.self)) planned.windows taken, has);
+          let (after, taken, has) = takes h held in (
+            after,
+            subst (λ (ws : List ℕ). TakenFrom ws (world_in h net) c.args.from c.args.to list (world_in after c.take_item.new.self)) planned.windows taken,
+            has,
+          );
     })
     c.take_item.ensures.takes

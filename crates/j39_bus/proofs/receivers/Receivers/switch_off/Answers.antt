@@ -14,7 +14,8 @@ loop-other-preserved c =
     (holding_at c.close.new.self.holdings) c.loop-other.invariant.cleared c.close.ensures.after (λ s t. refl) in
     record {
       windows = c.close-in-loop-other.ensures.windows ∙ c.close.ensures.windows ∙ c.loop-other.invariant.windows;
-      cleared = cleared_more closed (or_at (in_row_or_column u k) u k) (in_row_or_column u (k + 1)) k u was (holding_at c.close.new.self.holdings) (holding_at c.close-in-loop-other.new.self.holdings) first
+      cleared = cleared_more closed (or_at (in_row_or_column u k) u k) (in_row_or_column u (k + 1)) k u was (holding_at c.close.new.self.holdings)
+          (holding_at c.close-in-loop-other.new.self.holdings) first
           c.close-in-loop-other.ensures.after (next_in_either u k);
     }
 

@@ -11,7 +11,8 @@ returns-in_err-find_tested c = refuses _ _ _ _ _ c.from_residual.ensures.1 (some
 
 pub returns-in_err-find_tested-2 : goal.returns-in_err-find_tested-2
 unfolding request_findings each
-returns-in_err-find_tested-2 c = refuses _ _ _ _ _ c.from_residual-in_err-find_tested-2.ensures.1 (some_right _ _ (some_left _ _ c.in_err-find_tested-2.ensures))
+returns-in_err-find_tested-2 c = refuses _ _ _ _ _ c.from_residual-in_err-find_tested-2.ensures.1
+    (some_right _ _ (some_left _ _ c.in_err-find_tested-2.ensures))
 
 pub returns-in_err-find_tested-3 : goal.returns-in_err-find_tested-3
 unfolding request_findings each

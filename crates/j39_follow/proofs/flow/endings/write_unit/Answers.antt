@@ -15,7 +15,8 @@ returns-in-Some c =
     IfOk-weaker c.write_standing.result _ _
     (λ _ written. λ frames of. (
       _,
-      line_there c.args.plan.now c.args.holders.now c.args.place c.args.unit.now frames of 254 c.in-Some.address (within c.args.holders.now (search rules)) stands,
+      line_there c.args.plan.now c.args.holders.now c.args.place c.args.unit.now frames of 254 c.in-Some.address
+          (within c.args.holders.now (search rules)) stands,
       written,
     ))
     c.write_standing.ensures

@@ -41,7 +41,8 @@ returns-then-not-is_selected c = (
 pub returns-then-not-group : goal.returns-then-not-group
 returns-then-not-group c = (
   λ e. planned_as c.args.groups.now c.args.pgn c.args.bytes.now c.args.sent c.args.place c.group-group.result.now
-      (slice_get-get_or c.args.groups.now.groups.items c.args.place c.group-group.result.now c.requires ∙ ap Some (c.group-group.ensures c.group-group.result.now))
+      (slice_get-get_or c.args.groups.now.groups.items c.args.place c.group-group.result.now c.requires ∙ ap Some
+      (c.group-group.ensures c.group-group.result.now))
       c.if-group-pgn.false (sym c.has_length.ensures ∙ c.if-not-has_length.false) (sym c.is_selected.ensures ∙ c.if-not-is_selected.false)
       (inl c.if-not-group.true),
   λ may. refl,
@@ -50,7 +51,8 @@ returns-then-not-group c = (
 pub returns : goal.returns
 returns c = (
   λ e. planned_as c.args.groups.now c.args.pgn c.args.bytes.now c.args.sent c.args.place c.group-group.result.now
-      (slice_get-get_or c.args.groups.now.groups.items c.args.place c.group-group.result.now c.requires ∙ ap Some (c.group-group.ensures c.group-group.result.now))
+      (slice_get-get_or c.args.groups.now.groups.items c.args.place c.group-group.result.now c.requires ∙ ap Some
+      (c.group-group.ensures c.group-group.result.now))
       c.if-group-pgn.false (sym c.has_length.ensures ∙ c.if-not-has_length.false) (sym c.is_selected.ensures ∙ c.if-not-is_selected.false)
       (inr (some_or_none (fitting_flow c.args.groups.now c.args.place c.args.sent) (ap is_some (sym c.flow_of.ensures) ∙ sym c.is_some.ensures ∙ e))),
   λ may. elim may.meets.own [

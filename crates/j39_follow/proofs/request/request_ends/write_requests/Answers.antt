@@ -31,4 +31,5 @@ pub returns : goal.returns
 returns c = λ events are.
     let test = c.loop-place-test.false in
     let count = c.len-place-end.ensures in
-    all_lines (request_end c.args.plan.now events) c.args.plan.now.requests.items _ _ c.loop-place.place (omega (arith, test, count)) (c.loop-place.invariant events are)
+    all_lines (request_end c.args.plan.now events) c.args.plan.now.requests.items _ _ c.loop-place.place (omega (arith, test, count))
+    (c.loop-place.invariant events are)

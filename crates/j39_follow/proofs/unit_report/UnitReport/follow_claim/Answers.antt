@@ -29,7 +29,8 @@ returns-clause-followed c = λ past of few counted.
     let many : length (frames_seen past.seen) ≡ length past.seen = length-map past.seen (λ (s : Seen). s.frame) in
     let heard : Knows plan c.hear-2.new.self (frames_with past.seen f) =
     subst (λ (p : Plan). Knows p c.hear-2.new.self (frames_with past.seen f)) c.plan-2.ensures
-    (c.hear-2.ensures (frames_seen past.seen) (many ∙ counted) (subst (λ (p : Plan). Knows p c.args.self.now.directory (frames_seen past.seen)) (sym c.plan-2.ensures) of.knows)) in
+    (c.hear-2.ensures (frames_seen past.seen) (many ∙ counted) (subst (λ (p : Plan). Knows p c.args.self.now.directory (frames_seen past.seen))
+    (sym c.plan-2.ensures) of.knows)) in
     let first = subst (Knows plan c.args.self.now.directory) (sym of.frames) of.knows in
     let contests : AreContests plan c.hear.new.self log =
     subst (λ (t : Option ℕ). AreContests plan c.hear.new.self (past.timed ++ record { frame = f; time = t } ∷ [])) c.moment.ensures
@@ -37,7 +38,8 @@ returns-clause-followed c = λ past of few counted.
     (c.in_ok-hear.ensures past.timed (subst (λ (p : Plan). Knows p c.args.self.now.directory (frames_of past.timed)) (sym c.plan.ensures) first)
     (subst (λ (p : Plan). AreContests p c.args.self.now.contests past.timed) (sym c.plan.ensures) of.contests))) in
     let same = frames_as_well past f c.args.stamp.time.now of.frames in
-    let stated = c.in_ok-report.ensures.reported past (subst (Knows plan c.hear-2.new.self) (sym same) heard) contests of.heard of.ranges of.tally of.exchanges room room_stated in
+    let stated = c.in_ok-report.ensures.reported past (subst (Knows plan c.hear-2.new.self)
+    (sym same) heard) contests of.heard of.ranges of.tally of.exchanges room room_stated in
     let w = stated.written in
     let knows = subst (λ (d : Directory). Knows plan d (frames_with past.seen f)) (sym c.in_ok-report.ensures.directory) heard in
     let before = subst (λ (ps : List Who). ArePartiesOf plan (frames_seen past.seen) ps) (sym c.all_parties-before.ensures) of.knows.parties in
@@ -51,7 +53,8 @@ returns-clause-followed c = λ past of few counted.
       contests = subst (λ (cs : Contests). AreContests plan cs log) (sym c.in_ok-report.ensures.contests) contests;
       heard = heard_anew plan past.seen (record { frame = f; packet = w.packet }) c.all_parties-before.result c.parties.result.now.all c.replaced-taken.result
           c.report.new.self.pairs c.begin_anew.new.pairs before after
-          (c.replaced-taken.ensures (frames_seen past.seen) (c.holder.ensures plan (frames_seen past.seen) of.knows)) c.begin_anew.ensures.listeners c.begin_anew.ensures.collections w.heard;
+          (c.replaced-taken.ensures (frames_seen past.seen) (c.holder.ensures plan
+          (frames_seen past.seen) of.knows)) c.begin_anew.ensures.listeners c.begin_anew.ensures.collections w.heard;
       tally = stated.tally;
       noted = stated.noted;
     }

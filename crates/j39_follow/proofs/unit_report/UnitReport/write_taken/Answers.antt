@@ -49,7 +49,8 @@ returns-clause-written c =
     let time : Option ℕ = c.moment.result in
     let taken : Parties = c.taken-parties.result in
     let a = c.asker_or_source.result in
-    let source : IsTakenFrom plan self.directory self.contests time taken f.ident.sa = rw c.parties.ensures at (c.taken-parties.ensures.taken f.ident.sa (inl refl)) in
+    let source : IsTakenFrom plan self.directory self.contests time taken f.ident.sa = rw c.parties.ensures at
+    (c.taken-parties.ensures.taken f.ident.sa (inl refl)) in
     let receiver : IsTakenFrom plan self.directory self.contests time taken f.ident.ps =
     rw c.parties.ensures at (c.taken-parties.ensures.taken f.ident.ps (inr (inl refl))) in
     let asker : IsTakenFrom plan self.directory self.contests time taken a = rw c.parties.ensures at (c.taken-parties.ensures.taken a (inr (inr refl))) in

@@ -13,5 +13,8 @@ loop-at-init c = sym (append-nil (conditions_in c.args.found.now.items))
 
 pub loop-at-preserved : goal.loop-at-preserved
 loop-at-preserved c =
-    one_further condition_of (sent_with c.args.self.now.line.now c.args.self.now.first c.args.self.now.second c.args.self.now.group.now c.args.self.now.other.now c.args.place c.args.flow.now) c.loop-at.at c.args.self.now.line.now.plan.flows.items c.beside-item.result (conditions_in c.args.found.now.items) c.loop-at.found.items c.add_sent_with.new.found.items
-    (rw c.deref-beside-items.ensures.value at c.loop-at-test.true) c.loop-at.invariant (c.in_ok-add_sent_with.ensures ∙ ap (λ (x : FlowPlan). conditions_in c.loop-at.found.items ++ (sent_with c.args.self.now.line.now c.args.self.now.first c.args.self.now.second c.args.self.now.group.now c.args.self.now.other.now c.args.place c.args.flow.now) c.loop-at.at x) (rw c.deref-beside-items.ensures.value at c.beside-item.is))
+    one_further condition_of
+    (sent_with c.args.self.now.line.now c.args.self.now.first c.args.self.now.second c.args.self.now.group.now c.args.self.now.other.now c.args.place c.args.flow.now) c.loop-at.at c.args.self.now.line.now.plan.flows.items c.beside-item.result (conditions_in c.args.found.now.items) c.loop-at.found.items c.add_sent_with.new.found.items
+    (rw c.deref-beside-items.ensures.value at c.loop-at-test.true) c.loop-at.invariant
+    (c.in_ok-add_sent_with.ensures ∙ ap (λ (x : FlowPlan). conditions_in c.loop-at.found.items
+    ++ (sent_with c.args.self.now.line.now c.args.self.now.first c.args.self.now.second c.args.self.now.group.now c.args.self.now.other.now c.args.place c.args.flow.now) c.loop-at.at x) (rw c.deref-beside-items.ensures.value at c.beside-item.is))

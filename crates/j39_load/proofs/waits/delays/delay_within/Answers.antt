@@ -6,8 +6,12 @@ use Rattle.j39_load.proofs.waits.delays.delay_within.Goals as goal
 pub returns-in-Some-clause-some : goal.returns-in-Some-clause-some
 returns-in-Some-clause-some c =
     let demands = ap (map as_demand) c.as_slice-demands.ensures.value ∙ c.requires.buffering_delays.demands in
-    let found = same_found demands c.blocking_of-blocking.ensures c.requires.streams refl c.in-Some.wait c.in-Some.ensures.found in
-    (c.in-Some.wait, record { demand_fits = found.1; within = omega (arith, found.0, c.from.ensures, c.if-most-own.false) }, found.2, omega (arith, c.from.ensures))
+    let found = same_found demands c.blocking_of-blocking.ensures c.requires.streams refl c.in-Some.wait c.in-Some.ensures.found in (
+      c.in-Some.wait,
+      record { demand_fits = found.1; within = omega (arith, found.0, c.from.ensures, c.if-most-own.false) },
+      found.2,
+      omega (arith, c.from.ensures),
+    )
 
 pub returns-in-None-clause-none : goal.returns-in-None-clause-none
 returns-in-None-clause-none c =

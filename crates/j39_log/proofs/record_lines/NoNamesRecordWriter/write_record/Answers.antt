@@ -28,7 +28,8 @@ loop-i-preserved c =
       | then-is_repeated+in_ok-write_line w ↦
           let at = stands_at _ signals c.loop-i.i s c.requires.signals c.loop-i-test.true c.index-signals-i.is s in
           let reads = w.read_further-state.ensures s ∙ ap (λ (t : SignalParts). state_of t (raw_of bytes (further behind t))) at in
-          let line = ap (λ (state : State). record_line place s state) reads ∙ sym (one_signal place behind s bytes (sym c.is_repeated.ensures ∙ w.if-is_repeated.true)) in
+          let line = ap (λ (state : State). record_line place s state) reads ∙ sym
+          (one_signal place behind s bytes (sym c.is_repeated.ensures ∙ w.if-is_repeated.true)) in
           w.text-is ∙ w.in_ok-write_line.ensures ∙ ap (λ (t : List ℕ). old ++ t) line
       | else-is_repeated w ↦
           w.text-is

@@ -20,7 +20,10 @@ use Rattle.j39_plan.proofs.reading.groups.group.Goals as goal
 
 pub invariant_of-result-clause-signal_count : goal.invariant_of-result-clause-signal_count
 invariant_of-result-clause-signal_count c =
-    rw (length-Each _ _ _ (signals_read c.args.version c.is_some-records.result _ _ _ c.in_ok-parts.ensures.signals c.in_ok-planned.ensures.gives.1), c.in_ok-arrays.ensures.1.0) (tables_count key.Signal signal_limit _)
+    rw (
+      length-Each _ _ _ (signals_read c.args.version c.is_some-records.result _ _ _ c.in_ok-parts.ensures.signals c.in_ok-planned.ensures.gives.1),
+      c.in_ok-arrays.ensures.1.0,
+    ) (tables_count key.Signal signal_limit _)
 
 pub invariant_of-result-clause-meaning_count : goal.invariant_of-result-clause-meaning_count
 invariant_of-result-clause-meaning_count c =
@@ -29,19 +32,23 @@ invariant_of-result-clause-meaning_count c =
 
 pub invariant_of-result-clause-signal_forms : goal.invariant_of-result-clause-signal_forms
 invariant_of-result-clause-signal_forms c =
-    All-from_Each (IsRead c.args.version c.is_some-records.result) (λ s. IsTrue (is_label s.label.bytes)) (λ d s read. read.1.label_form) _ _ (signals_read c.args.version c.is_some-records.result _ _ _ c.in_ok-parts.ensures.signals c.in_ok-planned.ensures.gives.1)
+    All-from_Each (IsRead c.args.version c.is_some-records.result) (λ s. IsTrue (is_label s.label.bytes)) (λ d s read. read.1.label_form) _ _
+    (signals_read c.args.version c.is_some-records.result _ _ _ c.in_ok-parts.ensures.signals c.in_ok-planned.ensures.gives.1)
 
 pub invariant_of-result-clause-signal_ranges : goal.invariant_of-result-clause-signal_ranges
 invariant_of-result-clause-signal_ranges c =
-    All-from_Each (IsRead c.args.version c.is_some-records.result) (λ s. IsSignal s.start s.bits s.step s.offset) (λ d s read. read.1.ranges) _ _ (signals_read c.args.version c.is_some-records.result _ _ _ c.in_ok-parts.ensures.signals c.in_ok-planned.ensures.gives.1)
+    All-from_Each (IsRead c.args.version c.is_some-records.result) (λ s. IsSignal s.start s.bits s.step s.offset) (λ d s read. read.1.ranges) _ _
+    (signals_read c.args.version c.is_some-records.result _ _ _ c.in_ok-parts.ensures.signals c.in_ok-planned.ensures.gives.1)
 
 pub invariant_of-result-clause-signal_divisors : goal.invariant_of-result-clause-signal_divisors
 invariant_of-result-clause-signal_divisors c =
-    All-from_Each (IsRead c.args.version c.is_some-records.result) (λ s. IsDivisor s.per) (λ d s read. read.1.divisor) _ _ (signals_read c.args.version c.is_some-records.result _ _ _ c.in_ok-parts.ensures.signals c.in_ok-planned.ensures.gives.1)
+    All-from_Each (IsRead c.args.version c.is_some-records.result) (λ s. IsDivisor s.per) (λ d s read. read.1.divisor) _ _
+    (signals_read c.args.version c.is_some-records.result _ _ _ c.in_ok-parts.ensures.signals c.in_ok-planned.ensures.gives.1)
 
 pub invariant_of-result-clause-signal_labels : goal.invariant_of-result-clause-signal_labels
 invariant_of-result-clause-signal_labels c =
-    signals_apart c.args.version c.is_some-records.result c.args.index _ _ (signals_read c.args.version c.is_some-records.result _ _ _ c.in_ok-parts.ensures.signals c.in_ok-planned.ensures.gives.1) c.in_ok-planned.ensures.gives.0
+    signals_apart c.args.version c.is_some-records.result c.args.index _ _
+    (signals_read c.args.version c.is_some-records.result _ _ _ c.in_ok-parts.ensures.signals c.in_ok-planned.ensures.gives.1) c.in_ok-planned.ensures.gives.0
 
 pub invariant_of-result-clause-text_count : goal.invariant_of-result-clause-text_count
 invariant_of-result-clause-text_count c =
@@ -57,7 +64,8 @@ invariant_of-result-clause-other_labels c =
 pub invariant_of-result-clause-every_needed : goal.invariant_of-result-clause-every_needed
 invariant_of-result-clause-every_needed c none =
     let single : c.is_some-records.result ≡ false = c.is_some-records.ensures ∙ ap is_some (sym c.distance-every.ensures ∙ none) in
-    All-from_Each (IsRead c.args.version c.is_some-records.result) (λ s. s.repeated ≡ false) (λ d s read. read.1.single single) _ _ (signals_read c.args.version c.is_some-records.result _ _ _ c.in_ok-parts.ensures.signals c.in_ok-planned.ensures.gives.1)
+    All-from_Each (IsRead c.args.version c.is_some-records.result) (λ s. s.repeated ≡ false) (λ d s read. read.1.single single) _ _
+    (signals_read c.args.version c.is_some-records.result _ _ _ c.in_ok-parts.ensures.signals c.in_ok-planned.ensures.gives.1)
 
 pub returns-in_err-planned : goal.returns-in_err-planned
 unfolding group_table_faults
@@ -91,7 +99,8 @@ returns-in_err-texts c =
     let when = rw (later.1.3) at c.in_ok-when.ensures in
     let records = c.is_some-records.ensures ∙ ap is_some later.1.2 in
     let ss = c.in_ok-parts.parts.0.items in
-    let labels = signal_texts_stated c.args.version c.is_some-records.result _ ss (signals_read c.args.version c.is_some-records.result _ _ _ c.in_ok-parts.ensures.signals c.in_ok-planned.ensures.gives.1) in
+    let labels = signal_texts_stated c.args.version c.is_some-records.result _ ss
+    (signals_read c.args.version c.is_some-records.result _ _ _ c.in_ok-parts.ensures.signals c.in_ok-planned.ensures.gives.1) in
     let none = rw (records, c.in_ok-arrays.ensures.1.0) at c.in_ok-planned.ensures.gives.0 in
     let ds = items_view c.in_ok-arrays.arrays.texts.now in
     let stated :
@@ -110,13 +119,16 @@ returns c =
     let when = rw (later.1.3) at c.in_ok-when.ensures in
     let records = c.is_some-records.ensures ∙ ap is_some later.1.2 in
     let ss = c.in_ok-parts.parts.0.items in
-    let labels = signal_texts_stated c.args.version c.is_some-records.result _ ss (signals_read c.args.version c.is_some-records.result _ _ _ c.in_ok-parts.ensures.signals c.in_ok-planned.ensures.gives.1) in
-    let stated = rw c.in_ok-arrays.ensures.1.0 at (Each-weaken (IsRead c.args.version c.is_some-records.result) (IsSignalOf c.args.version) (λ d s read. read.0) _ _ (signals_read c.args.version c.is_some-records.result _ _ _ c.in_ok-parts.ensures.signals c.in_ok-planned.ensures.gives.1)) in
+    let labels = signal_texts_stated c.args.version c.is_some-records.result _ ss
+    (signals_read c.args.version c.is_some-records.result _ _ _ c.in_ok-parts.ensures.signals c.in_ok-planned.ensures.gives.1) in
+    let stated = rw c.in_ok-arrays.ensures.1.0 at (Each-weaken (IsRead c.args.version c.is_some-records.result) (IsSignalOf c.args.version)
+    (λ d s read. read.0) _ _ (signals_read c.args.version c.is_some-records.result _ _ _ c.in_ok-parts.ensures.signals c.in_ok-planned.ensures.gives.1)) in
     let none = rw (records, c.in_ok-arrays.ensures.1.0) at c.in_ok-planned.ensures.gives.0 in
     let ds = items_view c.in_ok-arrays.arrays.texts.now in
     let read : (each_faults (text_faults (signal_texts ss) c.args.index) label_in 0 [] ds ≡ []) × Each IsTextOf ds c.in_ok-texts.texts.items =
     rw c.deref.ensures.value at c.in_ok-texts.ensures.gives in
-    let meanings = rw c.in_ok-arrays.ensures.1.0 at (meanings_read c.args.version c.is_some-records.result _ _ _ c.in_ok-parts.ensures.meanings c.in_ok-planned.ensures.gives.1) in
+    let meanings = rw c.in_ok-arrays.ensures.1.0 at
+    (meanings_read c.args.version c.is_some-records.result _ _ _ c.in_ok-parts.ensures.meanings c.in_ok-planned.ensures.gives.1) in
     let texts = rw (labels, c.in_ok-arrays.ensures.1.0, c.in_ok-arrays.ensures.1.1) at read in (
       rw (c.in_ok-only_known.ensures.0, c.in_ok-label.ensures.gives.0, c.in_ok-pgn.ensures.gives.0, c.in_ok-priority.ensures.gives.0)
           (rw (c.in_ok-length.ensures.gives.0, later.0, when.0, c.in_ok-arrays.ensures.0, none) texts.0),

@@ -4,4 +4,5 @@ use Rattle.j39_variants.proofs.variant_plan.RequestPlanMove.moved.Goals as goal
 pub returns : goal.returns
 returns c =
     let old = c.args.self.now in
-    made_where_all_are old.period (λ p x y z. record old { group = x; sender = y; to = z; period_positive = p }) _ old.period_positive _ _ _ _ _ _ c.in_ok-ends.ensures
+    made_where_all_are old.period
+    (λ p x y z. record old { group = x; sender = y; to = z; period_positive = p }) _ old.period_positive _ _ _ _ _ _ c.in_ok-ends.ensures
