@@ -24,9 +24,9 @@ use Rattle.j39_variants.specs.VariantPlans.{flag_at, flags, group_places, IsVari
 use Rattle.j39_variants.specs.VariantPlans.{unit_places}
 use Rattle.j39_variants.specs.Variants.{is_in}
 use Rattle.j39_variants.specs.declared.line.ProductLine.{ProductLine}
-use Rattle.j39_line_findings.specs.Boxes.{part_lets_in}
+use Rattle.j39_line_findings.specs.Boxes.{part_admits}
 use Rattle.j39_line_findings.specs.Conditions.{is_part_there}
-use Rattle.j39_line_findings.specs.KnownParts.{do_all_let_in}
+use Rattle.j39_line_findings.specs.KnownParts.{do_all_admit}
 use Rattle.j39_line_findings.specs.InFile.{load_finding_in_file}
 use Rattle.j39_line_findings.specs.LineFound.{AreVariantFindings, IsFound}
 use Rattle.j39_line_findings.specs.There.{is_flow_there, is_request_there, place_in_file}
@@ -125,19 +125,19 @@ module _ (line : ProductLine) (w v : List ℕ) (two : AreTwo line w v) (f : ℕ)
       (kept_parts line (parts_of_asked line f) x y both same (part ∷ []) among (and_from (is_part_there line x part) true there refl))).0
 
   flow_kept : is_flow_there line w f ≡ true → is_flow_there line v f ≡ true
-  flow_kept = one_kept w v two agree (Flow f) (λ a all. and_from (part_lets_in line a (Flow f)) true
-      (and_parts (part_lets_in line a (Flow f)) (do_all_let_in line (option_map_or (asking_parts line) (slice_get line.plan.flows.items f) []) a) all).0 refl)
+  flow_kept = one_kept w v two agree (Flow f) (λ a all. and_from (part_admits line a (Flow f)) true
+      (and_parts (part_admits line a (Flow f)) (do_all_admit line (option_map_or (asking_parts line) (slice_get line.plan.flows.items f) []) a) all).0 refl)
 
   asking_among : (r : ℕ) (request : RequestPlan) → slice_get line.plan.requests.items r ≡ Some request → is_some (asked_every flow request) ≡ true
       → AreAmong line (Request r ∷ []) (parts_of_asked line f)
   asking_among r request at_r asks a all =
-      let rest = (and_parts (part_lets_in line a (Flow f)) (do_all_let_in line
+      let rest = (and_parts (part_admits line a (Flow f)) (do_all_admit line
       (option_map_or (asking_parts line) (slice_get line.plan.flows.items f) []) a) all).1 in
       let here : 0 + r ≡ r = omega arith in
-      subst (λ b. do_all_let_in line (if b then Request r ∷ [] else []) a ≡ true) asks
-      (subst (λ n. do_all_let_in line (asking_part flow n request) a ≡ true) here
-      (listed_all (part_lets_in line a) (asking_part flow) 0 line.plan.requests.items
-      (subst (λ o. do_all_let_in line (option_map_or (asking_parts line) o []) a ≡ true) at_f rest) r request at_r))
+      subst (λ b. do_all_admit line (if b then Request r ∷ [] else []) a ≡ true) asks
+      (subst (λ n. do_all_admit line (asking_part flow n request) a ≡ true) here
+      (listed_all (part_admits line a) (asking_part flow) 0 line.plan.requests.items
+      (subst (λ o. do_all_admit line (option_map_or (asking_parts line) o []) a ≡ true) at_f rest) r request at_r))
 
   request_kept : (r : ℕ) (request : RequestPlan) → slice_get line.plan.requests.items r ≡ Some request → is_some (asked_every flow request) ≡ true
       → is_request_there line w r ≡ is_request_there line v r

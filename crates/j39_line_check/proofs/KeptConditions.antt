@@ -13,10 +13,10 @@ use Rattle.j39_variants.specs.declared.line.Alternative.{Alternative}
 use Rattle.j39_variants.specs.declared.line.Choice.{Choice}
 use Rattle.j39_variants.specs.declared.line.ProductLine.{ProductLine}
 use Rattle.j39_variant_search.specs.VariantSearch.{is_in_box}
-use Rattle.j39_line_findings.specs.Boxes.{part_lets_in}
+use Rattle.j39_line_findings.specs.Boxes.{part_admits}
 use Rattle.j39_line_findings.specs.Conditions.{are_there, Condition, is_part_there, meets_any, meets_condition}
 use Rattle.j39_line_findings.specs.FullVariants.{alternative_at}
-use Rattle.j39_line_findings.specs.KnownParts.{do_all_let_in}
+use Rattle.j39_line_findings.specs.KnownParts.{do_all_admit}
 use Rattle.j39_line_findings.specs.declared.part.LinePart.{LinePart}
 use Rattle.j39_line_findings.proofs.EveryVariant.{Fits, fits_from}
 use Rattle.j39_line_findings.proofs.Shown.{Passes, parts_shown}
@@ -79,7 +79,7 @@ turned choices w v agree c is = sym (agree c is)
 
 -- some parts are among others
 abbrev pub AreAmong : ProductLine → List LinePart → List LinePart → Type 0
-AreAmong line these others = (a : Alternative) → do_all_let_in line others a ≡ true → do_all_let_in line these a ≡ true
+AreAmong line these others = (a : Alternative) → do_all_admit line others a ≡ true → do_all_admit line these a ≡ true
 
 -- two variants of a line
 pub record AreTwo (line : ProductLine) (w v : List ℕ) : Type 0 where
@@ -96,7 +96,7 @@ kept_parts line all w v two agree parts among there =
     (parts_shown line v two.other parts).there_so (here.known_so there) (λ c k at.
     elim (cases_Bool (flag_at (choices_of_parts line all) c)) [
       | inl counts ↦ here.passes_so there c k (sym (agree c counts) ∙ at)
-      | inr whole ↦ among (alternative_at c k) (unlacking (do_all_let_in line all) line.choices.items v two.other c k at whole)
+      | inr whole ↦ among (alternative_at c k) (unlacking (do_all_admit line all) line.choices.items v two.other c k at whole)
     ])
 
 -- ---- a condition
@@ -138,9 +138,9 @@ module _ (line : ProductLine) (condition : Condition) where
   abbrev others : List LinePart
   others = lines_of_each (λ _ parts. counted_with line together parts) 0 condition.lacking
 
-  both : (a : Alternative) → do_all_let_in line (counted_parts line condition) a ≡ true → (do_all_let_in line together a ≡ true)
-      × (do_all_let_in line others a ≡ true)
-  both a all = and_parts (do_all_let_in line together a) (do_all_let_in line others a) (sym (list_all-append (part_lets_in line a) together others) ∙ all)
+  both : (a : Alternative) → do_all_admit line (counted_parts line condition) a ≡ true → (do_all_admit line together a ≡ true)
+      × (do_all_admit line others a ≡ true)
+  both a all = and_parts (do_all_admit line together a) (do_all_admit line others a) (sym (list_all-append (part_admits line a) together others) ∙ all)
 
   together_among : AreAmong line together (counted_parts line condition)
   together_among a all = (both a all).0
@@ -148,15 +148,15 @@ module _ (line : ProductLine) (condition : Condition) where
   lacking_among : (i : ℕ) (parts : List LinePart) → slice_get condition.lacking i ≡ Some parts → is_in_some (parts_box line (together ++ parts)) ≡ true
       → AreAmong line parts (counted_parts line condition)
   lacking_among i parts at joins a all =
-      subst (λ b. list_all (part_lets_in line a) (if b then parts else []) ≡ true) joins
-      (listed_all (part_lets_in line a) (λ _ these. counted_with line together these) 0 condition.lacking (both a all).1 i parts at)
+      subst (λ b. list_all (part_admits line a) (if b then parts else []) ≡ true) joins
+      (listed_all (part_admits line a) (λ _ these. counted_with line together these) 0 condition.lacking (both a all).1 i parts at)
 
   -- parts that are there with what has to be there may be
   joined : (v : List ℕ) → IsVariant line.choices.items v → (parts : List LinePart) → are_there line v together ≡ true → are_there line v parts ≡ true
       → is_in_some (parts_box line (together ++ parts)) ≡ true
   joined v is parts first second =
       some_in_box (parts_box line (together ++ parts)) v
-      (passing_is_within (do_all_let_in line (together ++ parts)) line.choices.items v is
+      (passing_is_within (do_all_admit line (together ++ parts)) line.choices.items v is
       ((parts_shown line v is (together ++ parts)).passes_so
       (list_all-append (is_part_there line v) together parts ∙ and_from (are_there line v together) (are_there line v parts) first second)))
 

@@ -25,7 +25,7 @@ use Rattle.j39_line_findings.specs.MissedNeeds.{is_in_at, is_need_asked_for, is_
 use Rattle.j39_line_findings.specs.There.{is_need_there, missed_needs, place_in_file}
 use Rattle.j39_line_findings.specs.declared.line_finding.LineFinding.{LineFinding}
 use Rattle.j39_line_findings.specs.declared.line_finding.LineFinding.TheVariants.{OfPlan}
-use Rattle.j39_line_findings.specs.declared.there.WhatIsThere.{WhatIsThere}
+use Rattle.j39_line_findings.specs.declared.there.Present.{Present}
 use Rattle.j39_line_laws.proofs.FoundOfCovering.{in_plan, of_missed_reported, of_plan_reported}
 use Rattle.j39_line_laws.specs.ByAbsenceExactly.{AbsenceIsFoundWhereMet, IsFoundWhereMet}
 use Rattle.j39_line_laws.proofs.AbsenceHere.{astray_here, astray_there, source_there, unanswered_here, unanswered_there, unheard_here, unheard_there}
@@ -105,7 +105,7 @@ module _ (line : ProductLine) (v : List ℕ) {X Y : Type 0} (R : X → Y → Typ
 -- ---- of a plan, at places in the file
 
 -- what holds of the plan where this is reported
-abbrev IsReported : Plan → WhatIsThere → Finding → Type 0
+abbrev IsReported : Plan → Present → Finding → Type 0
 IsReported plan there (PrivateUnsent g) = PassesAt (is_private_unsent plan.groups.items plan.flows.items) plan.groups.items there.groups.items g
 IsReported plan there (NeedUnmet d) = PassesAt (is_unmet plan.requests.items plan.flows.items) plan.needs.items there.needs.items d
 IsReported plan there (RequestUnanswered r) = PassesAt (goes_unanswered plan.flows.items) plan.requests.items there.requests.items r
@@ -121,7 +121,7 @@ holding : {Y : Type 0} (test : Y → Bool) (P : Y → Type 0) → ((y : Y) → D
     → ValueAt P ys i
 holding test P decides ys i at = record { value = at.value; value_is = at.value_is; meets = (decides at.value).0 at.meets }
 
-reported_of : (plan : Plan) (there : WhatIsThere) (finding : Finding) → Holds plan finding → IsReported plan there (finding_in_file there finding)
+reported_of : (plan : Plan) (there : Present) (finding : Finding) → Holds plan finding → IsReported plan there (finding_in_file there finding)
 reported_of plan there (PrivateUnsent g) holds =
     (g, refl, decided _ _ (Decides-is_private_unsent plan.groups.items plan.flows.items) plan.groups.items g holds)
 reported_of plan there (NeedUnmet d) holds = (d, refl, decided _ _ (Decides-is_unmet plan.requests.items plan.flows.items) plan.needs.items d holds)
@@ -135,7 +135,7 @@ module _ (line : ProductLine) (v : List ℕ) (findings : List LineFinding) (of :
   abbrev plan : Plan
   plan = of.plan
 
-  abbrev there : WhatIsThere
+  abbrev there : Present
   there = of.there
 
   -- reported of the plan, or missed

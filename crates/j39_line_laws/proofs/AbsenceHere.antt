@@ -18,8 +18,8 @@ use Rattle.j39_variants.specs.VariantPlans.{flags, group_places, IsCopyOfGroup, 
 use Rattle.j39_variants.specs.VariantPlans.{place_at, unit_places}
 use Rattle.j39_line_findings.specs.Conditions.{astray_conditions, meets_any, meets_condition, unmet_condition, unsent_condition, unserved_condition}
 use Rattle.j39_line_findings.specs.MissedNeeds.{is_group_there, is_in_at, is_need_asked_for, is_sender_there, is_source_there, is_unit_there}
-use Rattle.j39_line_findings.specs.There.{is_flow_there, is_receiver_there, is_request_there, IsWhatIsThere}
-use Rattle.j39_line_findings.specs.declared.there.WhatIsThere.{WhatIsThere}
+use Rattle.j39_line_findings.specs.There.{is_flow_there, is_receiver_there, is_request_there, IsPresent}
+use Rattle.j39_line_findings.specs.declared.there.Present.{Present}
 use Rattle.j39_line_findings.proofs.Tests.{any_at, at_any}
 use Rattle.j39_line_laws.proofs.PickedPlaces.{one_test}
 use Rattle.j39_line_laws.proofs.InVariant.{are_flows, are_requests, group_named}
@@ -105,7 +105,7 @@ by_request true true false d x brings asked = absurd (false≢true brings)
 by_request true true true false x brings asked = absurd (false≢true brings)
 by_request true true true true x brings asked = asked
 
-module _ (line : ProductLine) (v : List ℕ) (plan : Plan) (is : IsVariantPlan line v plan) (there : WhatIsThere) (are : IsWhatIsThere line v there) where
+module _ (line : ProductLine) (v : List ℕ) (plan : Plan) (is : IsVariantPlan line v plan) (there : Present) (are : IsPresent line v there) where
   abbrev units : List Bool
   units = flags v line.lists.units.items
 

@@ -10,8 +10,8 @@ use Rattle.j39_network.specs.declared.plan.need_plan.NeedPlan.{NeedPlan}
 use Rattle.j39_network.specs.declared.plan.request_plan.RequestPlan.{RequestPlan}
 use Rattle.j39_variants.specs.declared.line.Alternative.{Alternative}
 use Rattle.j39_variants.specs.declared.line.ProductLine.{ProductLine}
-use Rattle.j39_line_findings.specs.Boxes.{are_one_answer, do_meet, flow_lets_in, request_lets_in}
-use Rattle.j39_line_findings.specs.FullVariants.{agree_on_answer, agree_on_answers, agree_on_flow, agree_on_flows, agree_on_need, agree_on_sending, does_bring}
+use Rattle.j39_line_findings.specs.Boxes.{are_one_answer, do_overlap, flow_admits, request_admits}
+use Rattle.j39_line_findings.specs.FullVariants.{agree_on_answer, agree_on_answers, agree_on_flow, agree_on_flows, agree_on_need, agree_on_sending, provides}
 use Rattle.j39_line_findings.specs.declared.part.LinePart.TheVariants.{Flow, Need, Request}
 use Rattle.j39_line_findings.proofs.Tests.{all_at}
 
@@ -84,11 +84,11 @@ all_in_range P n k below all =
 
 module _ (line : ProductLine) (alternatives : List Alternative) (d : ℕ) where
   abbrev answers : Alternative → Alternative → ℕ → FlowPlan → ℕ → RequestPlan → Bool
-  answers a b f flow r request = not (serves request flow) || (not (do_meet line alternatives (Need d) (Flow f) (Request r))
-      || are_one_answer (flow_lets_in line a f && request_lets_in line a r) (flow_lets_in line b f && request_lets_in line b r))
+  answers a b f flow r request = not (serves request flow) || (not (do_overlap line alternatives (Need d) (Flow f) (Request r))
+      || are_one_answer (flow_admits line a f && request_admits line a r) (flow_admits line b f && request_admits line b r))
 
   abbrev brings : Alternative → Alternative → NeedPlan → ℕ → FlowPlan → Bool
-  brings a b need f flow = not (does_bring need flow) || (if flow.on_request
+  brings a b need f flow = not (provides need flow) || (if flow.on_request
       then agree_on_answers line alternatives d a b f flow
       else agree_on_sending line alternatives d a b f)
 
@@ -97,8 +97,8 @@ module _ (line : ProductLine) (alternatives : List Alternative) (d : ℕ) where
   module _ (a : Alternative) where
     answer-refl : (f : ℕ) (flow : FlowPlan) (r : ℕ) → agree_on_answer line alternatives d a a f flow r ≡ true
     answer-refl f flow r = option-refl (answers a a f flow r)
-        (λ request. or-refl (not (serves request flow)) _ (or-refl (not (do_meet line alternatives (Need d) (Flow f) (Request r))) _
-        (one-answer-refl (flow_lets_in line a f && request_lets_in line a r))))
+        (λ request. or-refl (not (serves request flow)) _ (or-refl (not (do_overlap line alternatives (Need d) (Flow f) (Request r))) _
+        (one-answer-refl (flow_admits line a f && request_admits line a r))))
         (slice_get line.plan.requests.items r)
 
     answers-refl : (f : ℕ) (flow : FlowPlan) → agree_on_answers line alternatives d a a f flow ≡ true
@@ -107,8 +107,8 @@ module _ (line : ProductLine) (alternatives : List Alternative) (d : ℕ) where
 
     flow-refl : (need : NeedPlan) (f : ℕ) → agree_on_flow line alternatives d a a need f ≡ true
     flow-refl need f = option-refl (brings a a need f)
-        (λ flow. or-refl (not (does_bring need flow)) _ (if-refl flow.on_request _ _ (answers-refl f flow)
-        (or-refl (not (do_meet line alternatives (Need d) (Flow f) (Flow f))) _ (one-answer-refl (flow_lets_in line a f)))))
+        (λ flow. or-refl (not (provides need flow)) _ (if-refl flow.on_request _ _ (answers-refl f flow)
+        (or-refl (not (do_overlap line alternatives (Need d) (Flow f) (Flow f))) _ (one-answer-refl (flow_admits line a f)))))
         (slice_get line.plan.flows.items f)
 
     flows-refl : (need : NeedPlan) → agree_on_flows line alternatives d a a need ≡ true
@@ -126,9 +126,9 @@ module _ (line : ProductLine) (alternatives : List Alternative) (d : ℕ) where
         → agree_on_answer line alternatives d b c f flow r ≡ true
         → agree_on_answer line alternatives d a c f flow r ≡ true
     answer-trans f flow r = option-lift (answers a b f flow r) (answers b c f flow r) (answers a c f flow r)
-        (λ request. or-lift (not (serves request flow)) _ _ _ (or-lift (not (do_meet line alternatives (Need d) (Flow f) (Request r))) _ _ _
-        (one-answer-trans (flow_lets_in line a f && request_lets_in line a r) (flow_lets_in line b f && request_lets_in line b r)
-        (flow_lets_in line c f && request_lets_in line c r))))
+        (λ request. or-lift (not (serves request flow)) _ _ _ (or-lift (not (do_overlap line alternatives (Need d) (Flow f) (Request r))) _ _ _
+        (one-answer-trans (flow_admits line a f && request_admits line a r) (flow_admits line b f && request_admits line b r)
+        (flow_admits line c f && request_admits line c r))))
         (slice_get line.plan.requests.items r)
 
     answers-trans : (f : ℕ) (flow : FlowPlan) → agree_on_answers line alternatives d a b f flow ≡ true → agree_on_answers line alternatives d b c f flow ≡ true
@@ -140,9 +140,9 @@ module _ (line : ProductLine) (alternatives : List Alternative) (d : ℕ) where
     flow-trans : (need : NeedPlan) (f : ℕ) → agree_on_flow line alternatives d a b need f ≡ true → agree_on_flow line alternatives d b c need f ≡ true
         → agree_on_flow line alternatives d a c need f ≡ true
     flow-trans need f = option-lift (brings a b need f) (brings b c need f) (brings a c need f)
-        (λ flow. or-lift (not (does_bring need flow)) _ _ _ (if-lift flow.on_request _ _ _ _ _ _ (answers-trans f flow)
-        (or-lift (not (do_meet line alternatives (Need d) (Flow f) (Flow f))) _ _ _
-        (one-answer-trans (flow_lets_in line a f) (flow_lets_in line b f) (flow_lets_in line c f)))))
+        (λ flow. or-lift (not (provides need flow)) _ _ _ (if-lift flow.on_request _ _ _ _ _ _ (answers-trans f flow)
+        (or-lift (not (do_overlap line alternatives (Need d) (Flow f) (Flow f))) _ _ _
+        (one-answer-trans (flow_admits line a f) (flow_admits line b f) (flow_admits line c f)))))
         (slice_get line.plan.flows.items f)
 
     flows-trans : (need : NeedPlan) → agree_on_flows line alternatives d a b need ≡ true → agree_on_flows line alternatives d b c need ≡ true
@@ -159,7 +159,7 @@ module _ (line : ProductLine) (alternatives : List Alternative) (d : ℕ) where
   -- ---- on what they agree
 
   module _ (a b : Alternative) (need : NeedPlan) (at_d : slice_get line.plan.needs.items d ≡ Some need) (f : ℕ) (flow : FlowPlan)
-      (at_f : slice_get line.plan.flows.items f ≡ Some flow) (brought : does_bring need flow ≡ true) (agree : agree_on_need line alternatives d a b ≡ true)
+      (at_f : slice_get line.plan.flows.items f ≡ Some flow) (brought : provides need flow ≡ true) (agree : agree_on_need line alternatives d a b ≡ true)
       (below : f < length line.plan.flows.items) where
     agreed : (if flow.on_request then agree_on_answers line alternatives d a b f flow else agree_on_sending line alternatives d a b f) ≡ true
     unfolding agree_on_need agree_on_flows
@@ -170,21 +170,21 @@ module _ (line : ProductLine) (alternatives : List Alternative) (d : ℕ) where
         sym (ap (λ t. not t || (if flow.on_request then agree_on_answers line alternatives d a b f flow
         else agree_on_sending line alternatives d a b f)) brought) ∙ its
 
-    pub sending_agrees : flow.on_request ≡ false → do_meet line alternatives (Need d) (Flow f) (Flow f) ≡ true
-        → are_one_answer (flow_lets_in line a f) (flow_lets_in line b f) ≡ true
+    pub sending_agrees : flow.on_request ≡ false → do_overlap line alternatives (Need d) (Flow f) (Flow f) ≡ true
+        → are_one_answer (flow_admits line a f) (flow_admits line b f) ≡ true
     sending_agrees by_itself meet =
         let its = sym (ap (λ t. if t then agree_on_answers line alternatives d a b f flow
         else agree_on_sending line alternatives d a b f) by_itself) ∙ agreed in
-        sym (ap (λ t. not t || are_one_answer (flow_lets_in line a f) (flow_lets_in line b f)) meet) ∙ its
+        sym (ap (λ t. not t || are_one_answer (flow_admits line a f) (flow_admits line b f)) meet) ∙ its
 
     pub answer_agrees : flow.on_request ≡ true → (r : ℕ) (request : RequestPlan) → slice_get line.plan.requests.items r ≡ Some request
-        → r < length line.plan.requests.items → serves request flow ≡ true → do_meet line alternatives (Need d) (Flow f) (Request r) ≡ true
-        → are_one_answer (flow_lets_in line a f && request_lets_in line a r) (flow_lets_in line b f && request_lets_in line b r) ≡ true
+        → r < length line.plan.requests.items → serves request flow ≡ true → do_overlap line alternatives (Need d) (Flow f) (Request r) ≡ true
+        → are_one_answer (flow_admits line a f && request_admits line a r) (flow_admits line b f && request_admits line b r) ≡ true
     unfolding agree_on_answers
     answer_agrees asked r request at_r few serves_it meet =
-        let both = are_one_answer (flow_lets_in line a f && request_lets_in line a r) (flow_lets_in line b f && request_lets_in line b r) in
+        let both = are_one_answer (flow_admits line a f && request_admits line a r) (flow_admits line b f && request_admits line b r) in
         let all = sym (ap (λ t. if t then agree_on_answers line alternatives d a b f flow else agree_on_sending line alternatives d a b f) asked) ∙ agreed in
         let one = all_in_range (agree_on_answer line alternatives d a b f flow) (length line.plan.requests.items) r few all in
         let its = sym (ap (λ o. option_map_or (answers a b f flow r) o true) at_r) ∙ one in
         sym (ap (λ t. not t || both) meet)
-        ∙ (sym (ap (λ t. not t || (not (do_meet line alternatives (Need d) (Flow f) (Request r)) || both)) serves_it) ∙ its)
+        ∙ (sym (ap (λ t. not t || (not (do_overlap line alternatives (Need d) (Flow f) (Request r)) || both)) serves_it) ∙ its)

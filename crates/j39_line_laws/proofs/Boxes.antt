@@ -8,7 +8,7 @@ use Rattle.j39_variants.specs.declared.line.Alternative.{Alternative}
 use Rattle.j39_variants.specs.declared.line.ProductLine.{ProductLine}
 use Rattle.j39_variants.specs.VariantPlans.{flags}
 use Rattle.j39_variants.specs.Variants.{is_in, takes_alternative}
-use Rattle.j39_line_findings.specs.Boxes.{is_one_alternative, lets_in}
+use Rattle.j39_line_findings.specs.Boxes.{is_one_alternative, admits}
 use Rattle.j39_line_findings.specs.FullVariants.{alternative_at, do_keep, is_covered}
 use Rattle.j39_line_findings.proofs.Shown.{place_taken}
 use Rattle.j39_line_findings.proofs.Tests.{all_at, any_at, at_all, at_any}
@@ -22,7 +22,7 @@ leads false b both is = absurd (false≢true is)
 -- where the box has the one alternative it has the other
 abbrev Keeps : List Alternative → List ℕ → List ℕ → Type 0
 Keeps list v w = (c p : ℕ) → slice_get v c ≡ Some p
-    → (q : ℕ) × (slice_get w c ≡ Some q) × (lets_in list (alternative_at c p) ≡ true → lets_in list (alternative_at c q) ≡ true)
+    → (q : ℕ) × (slice_get w c ≡ Some q) × (admits list (alternative_at c p) ≡ true → admits list (alternative_at c q) ≡ true)
 
 module _ (list : List Alternative) (v w : List ℕ) (keeps : Keeps list v w) where
   abbrev takes_one : List ℕ → Alternative → Alternative → Bool
@@ -75,8 +75,8 @@ first_keeps list lists v w all c p at =
     let (q, at_q, kept) = all c p at in (
       q,
       at_q,
-      leads (lets_in list.items (alternative_at c p)) (lets_in list.items (alternative_at c q))
-          (and_parts (not (lets_in list.items (alternative_at c p)) || lets_in list.items (alternative_at c q))
+      leads (admits list.items (alternative_at c p)) (admits list.items (alternative_at c q))
+          (and_parts (not (admits list.items (alternative_at c p)) || admits list.items (alternative_at c q))
           (do_keep lists (alternative_at c p) (alternative_at c q)) kept).0,
     )
 
@@ -85,7 +85,7 @@ others_keep list lists v w all c p at =
     let (q, at_q, kept) = all c p at in (
       q,
       at_q,
-      (and_parts (not (lets_in list.items (alternative_at c p)) || lets_in list.items (alternative_at c q))
+      (and_parts (not (admits list.items (alternative_at c p)) || admits list.items (alternative_at c q))
           (do_keep lists (alternative_at c p) (alternative_at c q)) kept).1,
     )
 

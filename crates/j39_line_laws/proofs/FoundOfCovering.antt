@@ -28,7 +28,7 @@ use Rattle.j39_line_findings.specs.LineFound.{AreVariantFindings, IsFound}
 use Rattle.j39_line_findings.specs.There.{place_in_file, missed_needs}
 use Rattle.j39_line_findings.specs.declared.line_finding.LineFinding.{LineFinding}
 use Rattle.j39_line_findings.specs.declared.line_finding.LineFinding.TheVariants.{OfPlan, OfLoad}
-use Rattle.j39_line_findings.specs.declared.there.WhatIsThere.{WhatIsThere}
+use Rattle.j39_line_findings.specs.declared.there.Present.{Present}
 use Rattle.j39_line_laws.specs.Covering.{IsCoveredBy}
 use Rattle.j39_line_laws.specs.FoundOfCovering.{AreFoundOfCovering, IsAbsentOrFound, is_by_absence, OnlyAbsenceIsReported}
 use Rattle.j39_line_laws.proofs.Parts.{at, is_part_at}
@@ -148,10 +148,10 @@ module _ (line : ProductLine) (v w : List ℕ) (covered : IsCoveredBy line v w) 
   is_part : IsPartAt p part whole
   is_part = is_part_at line v w covered part whole of_here.is_plan of_there.is_plan
 
-  abbrev these : WhatIsThere
+  abbrev these : Present
   these = of_here.there
 
-  abbrev those : WhatIsThere
+  abbrev those : Present
   those = of_there.there
 
   unit_is : (i : ℕ) (x : UnitPlan) → slice_get part.units.items i ≡ Some x → place_in_file those.units.items (p.unit i) ≡ place_in_file these.units.items i

@@ -31,7 +31,7 @@ use Rattle.j39_line_findings.specs.FlowEnds.{has_end_in_pool}
 use Rattle.j39_line_findings.specs.declared.line_finding.LineFinding.{LineFinding}
 use Rattle.j39_line_findings.specs.declared.line_finding.LineFinding.TheVariants.{OfPlan}
 use Rattle.j39_line_findings.specs.declared.part.LinePart.TheVariants.{Unit as AUnit, Group, Flow, Request}
-use Rattle.j39_line_findings.specs.declared.there.WhatIsThere.{WhatIsThere}
+use Rattle.j39_line_findings.specs.declared.there.Present.{Present}
 use Rattle.j39_line_laws.proofs.FoundOfCovering.{in_plan, of_plan_reported}
 use Rattle.j39_line_laws.proofs.ContestedFlows.{contested_flow, contested_there, there_contested}
 use Rattle.j39_line_laws.proofs.FilePlaces.{HasPlace}
@@ -51,7 +51,7 @@ module _ (line : ProductLine) (v : List ℕ) (findings : List LineFinding) (has 
   abbrev plan : Plan
   plan = has.plan
 
-  abbrev these : WhatIsThere
+  abbrev these : Present
   these = has.there
 
   abbrev p : Places

@@ -6,8 +6,8 @@ use Rattle.std.proofs.lemmas.Bool.{and_from, and_parts, cases_Bool, cases_eq, ca
 use Rattle.std.proofs.lemmas.Bool.{or_right, true≢false}
 use Rattle.j39_variants.specs.declared.line.Alternative.{Alternative}
 use Rattle.j39_variants.specs.declared.line.ProductLine.{ProductLine}
-use Rattle.j39_line_findings.specs.Boxes.{is_one_alternative, lets_in}
-use Rattle.j39_line_findings.specs.FullVariants.{agree_on_need, alternative_at, do_keep, does_leave, does_need_let_in, is_covered, is_covered_for}
+use Rattle.j39_line_findings.specs.Boxes.{is_one_alternative, admits}
+use Rattle.j39_line_findings.specs.FullVariants.{agree_on_need, alternative_at, do_keep, does_leave, does_need_admit, is_covered, is_covered_for}
 use Rattle.j39_line_laws.proofs.Agreeing.{agree-refl, agree-trans}
 use Rattle.j39_line_laws.proofs.Boxes.{keep_flows, keep_groups, keep_nevers, keep_requests, keep_units}
 
@@ -33,14 +33,14 @@ keep_on false b c one two = refl
 
 keep-refl : (lists : List (Vec Alternative Global)) (a : Alternative) → do_keep lists a a ≡ true
 keep-refl [] a = refl
-keep-refl (l ∷ ls) a = and_from (not (lets_in l.items a) || lets_in l.items a) (do_keep ls a a) (keep_one (lets_in l.items a)) (keep-refl ls a)
+keep-refl (l ∷ ls) a = and_from (not (admits l.items a) || admits l.items a) (do_keep ls a a) (keep_one (admits l.items a)) (keep-refl ls a)
 
 keep-trans : (lists : List (Vec Alternative Global)) (a b c : Alternative) → do_keep lists a b ≡ true → do_keep lists b c ≡ true → do_keep lists a c ≡ true
 keep-trans [] a b c one two = refl
 keep-trans (l ∷ ls) a b c one two =
-    let (first, rest) = and_parts (not (lets_in l.items a) || lets_in l.items b) (do_keep ls a b) one in
-    let (second, more) = and_parts (not (lets_in l.items b) || lets_in l.items c) (do_keep ls b c) two in
-    and_from (not (lets_in l.items a) || lets_in l.items c) (do_keep ls a c) (keep_on (lets_in l.items a) (lets_in l.items b) (lets_in l.items c) first second)
+    let (first, rest) = and_parts (not (admits l.items a) || admits l.items b) (do_keep ls a b) one in
+    let (second, more) = and_parts (not (admits l.items b) || admits l.items c) (do_keep ls b c) two in
+    and_from (not (admits l.items a) || admits l.items c) (do_keep ls a c) (keep_on (admits l.items a) (admits l.items b) (admits l.items c) first second)
     (keep-trans ls a b c rest more)
 
 module _ (line : ProductLine) where
@@ -155,14 +155,14 @@ module _ (line : ProductLine) (alternatives : List Alternative) where
 
     -- of so many alternatives one that covers the first, and than which none of them is better
     -- (of those of the box of the need)
-    abbrev pub is_let_in : ℕ → Bool
-    is_let_in p = does_need_let_in line need (alternative_at c p)
+    abbrev pub is_admitted : ℕ → Bool
+    is_admitted p = does_need_admit line need (alternative_at c p)
 
     pub record IsBest (n total p m : ℕ) : Type 0 where
       pub inside : m < total
-      pub let_in : is_let_in m ≡ true
+      pub admitted : is_admitted m ≡ true
       pub covering : covers p m ≡ true
-      pub best : (r : ℕ) → r < n → is_let_in r ≡ true → ¬ IsBetter m r
+      pub best : (r : ℕ) → r < n → is_admitted r ≡ true → ¬ IsBetter m r
 
     not_both : (k r : ℕ) → IsBetter k r → leaves k r ≡ true → ⊥
     not_both k r (covered, differ, before) leaves_it =
@@ -179,29 +179,29 @@ module _ (line : ProductLine) (alternatives : List Alternative) where
           ]
         ]
 
-    pub best_of : (total p : ℕ) → p < total → is_let_in p ≡ true → (n : ℕ) → n ≤ total → (m : ℕ) × IsBest n total p m
+    pub best_of : (total p : ℕ) → p < total → is_admitted p ≡ true → (n : ℕ) → n ≤ total → (m : ℕ) × IsBest n total p m
     best_of total p within lets zero few = (
       p,
-      record { inside = within; let_in = lets; covering = covered_for-refl need (alternative_at c p); best = λ r below let_r better. omega (arith, below) },
+      record { inside = within; admitted = lets; covering = covered_for-refl need (alternative_at c p); best = λ r below let_r better. omega (arith, below) },
     )
     best_of total p within lets (suc n) few = go (best_of total p within lets n (omega (arith, few)))
       where
         -- the next one isn't in the box, or leaves the best one
-        stays : (m : ℕ) → IsBest n total p m → (is_let_in n ≡ true → ¬ IsBetter m n) → IsBest (suc n) total p m
+        stays : (m : ℕ) → IsBest n total p m → (is_admitted n ≡ true → ¬ IsBetter m n) → IsBest (suc n) total p m
         stays m is none = record {
           inside = is.inside;
-          let_in = is.let_in;
+          admitted = is.admitted;
           covering = is.covering;
           best = λ r below let_r more. elim (cases_lt r n) [
             | inl less ↦ is.best r less let_r more
             | inr from ↦
                 let same : r ≡ n = omega (arith, below, from) in
-                none (subst (λ k. is_let_in k ≡ true) same let_r) (subst (IsBetter m) same more)
+                none (subst (λ k. is_admitted k ≡ true) same let_r) (subst (IsBetter m) same more)
           ];
         }
 
         go : (m : ℕ) × IsBest n total p m → (m : ℕ) × IsBest (suc n) total p m
-        go (m, is) = elim (cases_Bool (is_let_in n)) [
+        go (m, is) = elim (cases_Bool (is_admitted n)) [
           | inr out ↦ (m, stays m is (λ let_n. absurd (true≢false (sym let_n ∙ out))))
           | inl let_n ↦ elim (better_or_not m n) [
             | inr leaves_it ↦ (m, stays m is (λ lets_it better. not_both m n better leaves_it))
@@ -209,7 +209,7 @@ module _ (line : ProductLine) (alternatives : List Alternative) where
               n,
               record {
                 inside = omega (arith, few);
-                let_in = let_n;
+                admitted = let_n;
                 covering = covered_for-trans need (alternative_at c p) (alternative_at c m) (alternative_at c n) is.covering better.0;
                 best = λ r below let_r more. elim (cases_lt r n) [
                   | inl less ↦ is.best r less let_r (better-trans m n r better more)

@@ -9,7 +9,7 @@ use Rattle.j39_variants.specs.declared.line.Alternative.{Alternative}
 use Rattle.j39_variants.specs.declared.line.Choice.{Choice}
 use Rattle.j39_variants.specs.declared.line.ProductLine.{ProductLine}
 use Rattle.j39_variants.specs.Variants.{is_in, IsVariant, size_at, takes_alternative}
-use Rattle.j39_line_findings.specs.FullVariants.{alternative_at, alternatives_of, alternatives_of_choice, compared, does_leave, does_need_let_in}
+use Rattle.j39_line_findings.specs.FullVariants.{alternative_at, alternatives_of, alternatives_of_choice, compared, does_leave, does_need_admit}
 use Rattle.j39_line_findings.specs.FullVariants.{full_alternatives, is_full_among}
 use Rattle.j39_part_laws.proofs.LoadFindings.{line_reported, reported_at}
 use Rattle.j39_part_laws.proofs.Places.{no_value, value_at}
@@ -106,13 +106,13 @@ module _ (line : ProductLine) where
 
   module _ (need : Option ℕ) where
     abbrev lets : ℕ → ℕ → Bool
-    lets c p = does_need_let_in line need (alternative_at c p)
+    lets c p = does_need_admit line need (alternative_at c p)
 
     abbrev IsBestOf : ℕ → ℕ → ℕ → Type 0
     IsBestOf c p m = IsBest line alternatives need c (size c) (size c) p m
 
     abbrev chosen : (c p : ℕ) → (p < size c) ⊎ (size c ≤ p) → (lets c p ≡ true) ⊎ (lets c p ≡ false) → ℕ
-    chosen c p (inl within) (inl let_in) = (best_of line alternatives need c (size c) p within let_in (size c) (omega arith)).0
+    chosen c p (inl within) (inl admitted) = (best_of line alternatives need c (size c) p within admitted (size c) (omega arith)).0
     chosen c p (inl within) (inr out) = p
     chosen c p (inr from) o = p
 
@@ -123,7 +123,7 @@ module _ (line : ProductLine) where
     full_best c p within let_p = go (cases_lt p (size c)) (cases_Bool (lets c p))
       where
         go : (o : (p < size c) ⊎ (size c ≤ p)) (e : (lets c p ≡ true) ⊎ (lets c p ≡ false)) → IsBestOf c p (chosen c p o e)
-        go (inl inside) (inl let_in) = (best_of line alternatives need c (size c) p inside let_in (size c) (omega arith)).1
+        go (inl inside) (inl admitted) = (best_of line alternatives need c (size c) p inside admitted (size c) (omega arith)).1
         go (inl inside) (inr out) = absurd (false≢true (sym out ∙ let_p))
         go (inr from) e = absurd (omega (arith, within, from))
 
@@ -183,13 +183,13 @@ module _ (line : ProductLine) where
       in_box_too : IsInBoxOf line need w
       in_box_too c q at =
           let (p, at_p, same) = taken_of c q at in
-          subst (λ k. lets c k ≡ true) (sym same) (best_taken c p at_p).let_in
+          subst (λ k. lets c k ≡ true) (sym same) (best_taken c p at_p).admitted
 
       abbrev these : List Alternative
       these = compared line alternatives need
 
       -- each other alternative leaves the one that is taken
-      left_by : (c p : ℕ) → slice_get v c ≡ Some p → (d : Alternative) → d.place < size d.choice → does_need_let_in line need d ≡ true
+      left_by : (c p : ℕ) → slice_get v c ≡ Some p → (d : Alternative) → d.place < size d.choice → does_need_admit line need d ≡ true
           → does_leave line alternatives need (alternative_at c (full_place c p)) d ≡ true
       left_by c p at d inside let_d = elim (cases_eq d.choice c) [
         | inr other ↦ or_left (not (d.choice == c)) _ (ap not (ne_eqb d.choice c other))
@@ -210,10 +210,10 @@ module _ (line : ProductLine) where
           let below = slice_get_within v c p at in
           let long = is.of_each in
           let (i, at_i) = among c m (omega (arith, below, long)) best.inside in
-          let (j, at_j) = in_filter (does_need_let_in line need) alternatives i b at_i best.let_in in
+          let (j, at_j) = in_filter (does_need_admit line need) alternatives i b at_i best.admitted in
           let full : is_full_among line alternatives need these b ≡ true =
           at_all (does_leave line alternatives need b) these (λ n d at_d.
-          let (l, at_l, let_d) = of_filter (does_need_let_in line need) alternatives n d at_d in
+          let (l, at_l, let_d) = of_filter (does_need_admit line need) alternatives n d at_d in
           let (in_choices, inside) = is_of_choice l d at_l in
           left_by c p at d inside let_d) in
           in_filter (is_full_among line alternatives need these) these j b at_j full
@@ -223,7 +223,7 @@ module _ (line : ProductLine) where
           (full_alternatives line alternatives need)
           (λ i a at_a.
           let (j, at_j, passes) = of_filter (is_full_among line alternatives need these) these i a at_a in
-          let (k, at_k, let_in) = of_filter (does_need_let_in line need) alternatives j a at_j in
+          let (k, at_k, admitted) = of_filter (does_need_admit line need) alternatives j a at_j in
           let (below, inside) = is_of_choice k a at_k in
           let long = is.of_each in
           let (p, at_p) = value_at v a.choice (omega (arith, below, long)) in

@@ -10,8 +10,8 @@ use Rattle.j39_variants.specs.VariantPlans.{flag_at, flags, group_places, IsCopy
 use Rattle.j39_variants.specs.VariantPlans.{picked, place_at, unit_places}
 use Rattle.j39_variants.specs.Variants.{is_in}
 use Rattle.j39_line_findings.specs.MissedNeeds.{is_group_there}
-use Rattle.j39_line_findings.specs.There.{is_flow_there, is_need_there, is_request_there, IsWhatIsThere}
-use Rattle.j39_line_findings.specs.declared.there.WhatIsThere.{WhatIsThere}
+use Rattle.j39_line_findings.specs.There.{is_flow_there, is_need_there, is_request_there, IsPresent}
+use Rattle.j39_line_findings.specs.declared.there.Present.{Present}
 use Rattle.j39_line_laws.proofs.Filtering.{flow_test, request_test, test_in}
 use Rattle.j39_line_laws.proofs.Picking.{copy_of, its_copy}
 use Rattle.j39_line_laws.proofs.PickedPlaces.{are_those, AreThose, Comes}
@@ -27,7 +27,7 @@ true_and : (b : Bool) → b ≡ (b && true)
 true_and true = refl
 true_and false = refl
 
-module _ (line : ProductLine) (v : List ℕ) (plan : Plan) (is : IsVariantPlan line v plan) (there : WhatIsThere) (are : IsWhatIsThere line v there) where
+module _ (line : ProductLine) (v : List ℕ) (plan : Plan) (is : IsVariantPlan line v plan) (there : Present) (are : IsPresent line v there) where
   pub are_flows : AreThose (Comes (moved_flow (unit_places line v) (group_places line v)))
       (is_flow_there line v) line.plan.flows.items plan.flows.items there.flows.items
   are_flows = are_those (moved_flow (unit_places line v) (group_places line v)) (is_flow_there line v) (flags v line.lists.flows.items)

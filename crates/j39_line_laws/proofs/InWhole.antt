@@ -21,8 +21,8 @@ use Rattle.j39_variants.specs.VariantPlans.{flag_at, flags, group_places, IsCopy
 use Rattle.j39_variants.specs.VariantPlans.{place_at, unit_places}
 use Rattle.j39_variants.specs.Variants.{is_in}
 use Rattle.j39_line_findings.specs.MissedNeeds.{is_group_there, is_in_at, is_unit_there}
-use Rattle.j39_line_findings.specs.There.{is_flow_there, is_receiver_there, is_request_there, IsWhatIsThere, place_in_file, places_of_those}
-use Rattle.j39_line_findings.specs.declared.there.WhatIsThere.{WhatIsThere}
+use Rattle.j39_line_findings.specs.There.{is_flow_there, is_receiver_there, is_request_there, IsPresent, place_in_file, places_of_those}
+use Rattle.j39_line_findings.specs.declared.there.Present.{Present}
 use Rattle.j39_part_laws.specs.PlanParts.{AreSome, IsFlowThere, IsGroupThere, IsPartAt, IsRequestThere, IsSame, Places, to_in}
 use Rattle.j39_part_laws.proofs.Places.{value_at}
 use Rattle.j39_line_laws.proofs.Filtering.{flow_test, kept_at, length-kept, parallel, parallel_kept, request_test, test_in}
@@ -222,7 +222,7 @@ module _ (line : ProductLine) (v : List ℕ) where
 
     -- ---- its place in the file
 
-    module _ (these : WhatIsThere) (are : IsWhatIsThere line v these) where
+    module _ (these : Present) (are : IsPresent line v these) where
       pub unit_in_file : (i : ℕ) (x : UnitPlan) → slice_get plan.units.items i ≡ Some x → place_in_file these.units.items i ≡ at.unit i
       unit_in_file i x at_x =
           let (k, at_k) = parallel unit_flags line.plan.units.items (range_with_len 0 (length line.plan.units.items))

@@ -17,7 +17,7 @@ use Rattle.j39_variants.specs.declared.line.ProductLine.{ProductLine}
 use Rattle.j39_line_findings.specs.Conditions.{answer_with, are_there, astray_by, astray_conditions, Condition, flow_where, flows_where, meets_any}
 use Rattle.j39_line_findings.specs.Conditions.{meets_condition}
 use Rattle.j39_line_findings.specs.Conditions.{source_parts, sources_of, unmet_condition, unsent_condition, unserved_condition}
-use Rattle.j39_line_findings.specs.FullVariants.{does_bring}
+use Rattle.j39_line_findings.specs.FullVariants.{provides}
 use Rattle.j39_line_findings.specs.MissedNeeds.{is_group_there, is_need_asked_for}
 use Rattle.j39_line_findings.specs.There.{is_flow_there, is_request_there}
 use Rattle.j39_line_findings.specs.declared.part.LinePart.{LinePart}
@@ -207,7 +207,7 @@ module _ (line : ProductLine) (v : List ℕ) where
 
   -- a flow that brings what is needed, with a request where it is only asked for
   pub record IsSource (need : NeedPlan) (k : ℕ) (flow : FlowPlan) : Type 0 where
-    pub brings : does_bring need flow ≡ true
+    pub brings : provides need flow ≡ true
     pub is_there : is_flow_there line v k ≡ true
     pub asked : flow.on_request ≡ true → IsAtPlace (λ r request. (serves request flow ≡ true) × (is_request_there line v r ≡ true)) line.plan.requests.items
 
@@ -215,9 +215,9 @@ module _ (line : ProductLine) (v : List ℕ) where
   parts_by k flow b o = if not b then [] else if o then lines_of_each (answer_with k flow) 0 line.plan.requests.items else (Flow k ∷ []) ∷ []
 
   source_from : (need : NeedPlan) (k : ℕ) (flow : FlowPlan) → list_any (are_there line v) (source_parts line need k flow) ≡ true → IsSource need k flow
-  source_from need k flow some = by (does_bring need flow) refl flow.on_request refl some
+  source_from need k flow some = by (provides need flow) refl flow.on_request refl some
     where
-      by : (b : Bool) → does_bring need flow ≡ b → (o : Bool) → flow.on_request ≡ o
+      by : (b : Bool) → provides need flow ≡ b → (o : Bool) → flow.on_request ≡ o
           → list_any (are_there line v) (parts_by k flow b o) ≡ true → IsSource need k flow
       by false brings o asked some = absurd (false≢true some)
       by true brings false asked some = record {
@@ -249,7 +249,7 @@ module _ (line : ProductLine) (v : List ℕ) where
   from_source : (need : NeedPlan) (k : ℕ) (flow : FlowPlan) → IsSource need k flow → list_any (are_there line v) (source_parts line need k flow) ≡ true
   from_source need k flow source = by flow.on_request refl
     where
-      by : (o : Bool) → flow.on_request ≡ o → list_any (are_there line v) (parts_by k flow (does_bring need flow) flow.on_request) ≡ true
+      by : (o : Bool) → flow.on_request ≡ o → list_any (are_there line v) (parts_by k flow (provides need flow) flow.on_request) ≡ true
       by false is_o =
           ap (λ b. list_any (are_there line v) (parts_by k flow b flow.on_request)) source.brings ∙ ap
           (λ o. list_any (are_there line v) (parts_by k flow true o)) is_o

@@ -9,8 +9,8 @@ use Rattle.j39_variants.specs.declared.line.ProductLine.{ProductLine}
 use Rattle.j39_variants.specs.VariantPlans.{flag_at, flags, group_places, IsVariantPlan, moved_need, picked, unit_places}
 use Rattle.j39_variants.specs.Variants.{is_in}
 use Rattle.j39_line_findings.specs.MissedNeeds.{is_need_asked_for, is_source_there}
-use Rattle.j39_line_findings.specs.There.{is_need_there, IsWhatIsThere, place_in_file, places_of_those}
-use Rattle.j39_line_findings.specs.declared.there.WhatIsThere.{WhatIsThere}
+use Rattle.j39_line_findings.specs.There.{is_need_there, IsPresent, place_in_file, places_of_those}
+use Rattle.j39_line_findings.specs.declared.there.Present.{Present}
 use Rattle.j39_part_laws.proofs.Places.{value_at}
 use Rattle.j39_line_laws.proofs.Filtering.{kept_at, length-kept}
 use Rattle.j39_line_laws.proofs.NeedsThere.{need_test}
@@ -35,13 +35,13 @@ module _ (line : ProductLine) (v : List ℕ) where
       need_test line v k d at_d ∙ sym (kept_at move_need (flags v line.lists.needs.items) line.plan.needs.items k d need_count at_d))
 
   -- no need stands twice
-  pub one_need_place : (there : WhatIsThere) → IsWhatIsThere line v there → (i j d : ℕ) → slice_get there.needs.items i ≡ Some d
+  pub one_need_place : (there : Present) → IsPresent line v there → (i j d : ℕ) → slice_get there.needs.items i ≡ Some d
       → slice_get there.needs.items j ≡ Some d → i ≡ j
   one_need_place there is_there i j d at_i at_j =
       let same = is_there.has_needs ∙ needs_flagged in
       one_place_each need_flags 0 (length line.plan.needs.items) i j d (ap (λ l. slice_get l i) (sym same) ∙ at_i) (ap (λ l. slice_get l j) (sym same) ∙ at_j)
 
-  module _ (there : WhatIsThere) (is_there : IsWhatIsThere line v there) (plan : Plan) (is : IsVariantPlan line v plan) where
+  module _ (there : Present) (is_there : IsPresent line v there) (plan : Plan) (is : IsVariantPlan line v plan) where
     file_place : (k d : ℕ) → slice_get (picked need_flags (range_with_len 0 (length line.plan.needs.items))) k ≡ Some (0 + d)
         → place_in_file there.needs.items k ≡ d
     file_place k d at_k =

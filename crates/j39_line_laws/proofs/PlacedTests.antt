@@ -10,7 +10,7 @@ use Rattle.j39_network.specs.declared.plan.to.To.TheVariants.{All, One}
 use Rattle.j39_variants.specs.declared.line.ProductLine.{ProductLine}
 use Rattle.j39_variants.specs.VariantPlans.{flags, group_places, moved_flow, moved_from, moved_need, moved_receivers, moved_request, need_between, place_at}
 use Rattle.j39_variants.specs.VariantPlans.{unit_places}
-use Rattle.j39_line_findings.specs.FullVariants.{does_bring}
+use Rattle.j39_line_findings.specs.FullVariants.{provides}
 use Rattle.j39_line_laws.proofs.Parts.{flow_of, request_of}
 use Rattle.j39_line_laws.proofs.NamedPlaces.{same_places}
 
@@ -41,7 +41,7 @@ five true true true true e = refl
 
 -- a flow meets a need where it brings what is needed, and is asked for where it has to be
 pub meets_by : (requests : List RequestPlan) (need : NeedPlan) (flow : FlowPlan)
-    → meets requests need flow ≡ (does_bring need flow && is_asked_for requests flow)
+    → meets requests need flow ≡ (provides need flow && is_asked_for requests flow)
 meets_by requests need flow = five (flow.group == need.group) (not (flow.sender == need.unit)) (is_from need.from flow.sender) (is_reached flow.to need.unit)
     (is_asked_for requests flow)
 
@@ -82,7 +82,7 @@ module _ (line : ProductLine) (v : List ℕ) where
       (ap not (unit_same x.sender r.sender y.sender q.sender f.sender a.sender))
       (reached_same r.to q.to x.sender y.sender a.to f.sender) (reached_same x.to y.to r.sender q.sender f.to a.sender)
 
-  pub brings_same : (need e : NeedPlan) (x y : FlowPlan) → moved_need us gs need ≡ Some e → moved_flow us gs x ≡ Some y → does_bring e y ≡ does_bring need x
+  pub brings_same : (need e : NeedPlan) (x y : FlowPlan) → moved_need us gs need ≡ Some e → moved_flow us gs x ≡ Some y → provides e y ≡ provides need x
   brings_same need e x y needs flow =
       let f = flow_of x (place_at gs x.group) (place_at us x.sender) (moved_receivers us x.to) y flow in
       let n = need_of need (place_at us need.unit) (place_at gs need.group) (moved_from us need.from) e needs in

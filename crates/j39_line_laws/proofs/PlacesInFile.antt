@@ -10,8 +10,8 @@ use Rattle.j39_network.specs.declared.plan.unit_plan.UnitPlan.{UnitPlan}
 use Rattle.j39_variants.specs.declared.line.ProductLine.{ProductLine}
 use Rattle.j39_variants.specs.VariantPlans.{flag_at, flags, IsVariantPlan, IsCopyOfGroup, picked}
 use Rattle.j39_line_findings.specs.MissedNeeds.{is_group_there, is_unit_there}
-use Rattle.j39_line_findings.specs.There.{is_flow_there, is_request_there, IsWhatIsThere, place_in_file, places_of_those}
-use Rattle.j39_line_findings.specs.declared.there.WhatIsThere.{WhatIsThere}
+use Rattle.j39_line_findings.specs.There.{is_flow_there, is_request_there, IsPresent, place_in_file, places_of_those}
+use Rattle.j39_line_findings.specs.declared.there.Present.{Present}
 use Rattle.j39_part_laws.proofs.Places.{value_at}
 use Rattle.j39_line_laws.specs.Covering.{IsCoveredBy}
 use Rattle.j39_line_laws.proofs.Boxes.{AreFewer}
@@ -62,8 +62,8 @@ same_kept_place f g bs cs xs fewer here there is_here is_there i y at_i =
     let (k, at_k) = parallel_kept f bs xs (range_with_len 0 (length xs)) (sym (length-range 0 (length xs))) i y at_i in
     place_same (kept f bs xs) (kept g cs xs) (length xs) fewer here there is_here is_there i k at_k
 
-module _ (line : ProductLine) (v w : List ℕ) (covered : IsCoveredBy line v w) (part : Plan) (is : IsVariantPlan line v part) (here there : WhatIsThere)
-    (are_here : IsWhatIsThere line v here) (are_there : IsWhatIsThere line w there) where
+module _ (line : ProductLine) (v w : List ℕ) (covered : IsCoveredBy line v w) (part : Plan) (is : IsVariantPlan line v part) (here there : Present)
+    (are_here : IsPresent line v here) (are_there : IsPresent line w there) where
   units_flagged : (x : List ℕ) → places_of_those (is_unit_there line x) (length line.plan.units.items)
       ≡ picked (flags x line.lists.units.items) (range_with_len 0 (length line.plan.units.items))
   units_flagged x = flagged (is_unit_there line x) (flags x line.lists.units.items) (length line.plan.units.items)

@@ -18,8 +18,8 @@ use Rattle.j39_variants.specs.declared.line.ProductLine.{ProductLine}
 use Rattle.j39_variants.specs.VariantPlans.{flag_at, flags, group_places, IsVariantPlan, moved_flow, moved_need, moved_receivers, moved_request, picked}
 use Rattle.j39_variants.specs.VariantPlans.{place_at, unit_places}
 use Rattle.j39_variants.specs.Variants.{IsVariant}
-use Rattle.j39_line_findings.specs.Boxes.{flow_lets_in, request_lets_in}
-use Rattle.j39_line_findings.specs.FullVariants.{agree_on_need, alternative_at, alternatives_of, does_bring, is_covered}
+use Rattle.j39_line_findings.specs.Boxes.{flow_admits, request_admits}
+use Rattle.j39_line_findings.specs.FullVariants.{agree_on_need, alternative_at, alternatives_of, provides, is_covered}
 use Rattle.j39_line_findings.specs.MissedNeeds.{is_group_there, is_in_at, is_need_asked_for, is_unit_there}
 use Rattle.j39_line_findings.specs.There.{is_flow_there, is_receiver_there, is_request_there}
 use Rattle.j39_line_findings.specs.declared.part.LinePart.TheVariants.{Flow, Need, Request}
@@ -110,7 +110,7 @@ module _ (line : ProductLine) (v w : List ℕ) (is_v : IsVariant line.choices.it
   agree c p q covers = (and_parts (is_covered line (alternative_at c p) (alternative_at c q))
       (agree_on_need line (alternatives_of line) d (alternative_at c p) (alternative_at c q)) covers).1
 
-  module _ (f : ℕ) (flow : FlowPlan) (at_f : slice_get line.plan.flows.items f ≡ Some flow) (brings : does_bring need flow ≡ true)
+  module _ (f : ℕ) (flow : FlowPlan) (at_f : slice_get line.plan.flows.items f ≡ Some flow) (brings : provides need flow ≡ true)
       (there : is_flow_there line w f ≡ true) where
     below : f < length line.plan.flows.items
     below = slice_get_within line.plan.flows.items f flow at_f
@@ -120,7 +120,7 @@ module _ (line : ProductLine) (v w : List ℕ) (is_v : IsVariant line.choices.it
         let (q, at_q, covers) = covered c p at_p in
         let meet = meet_by line w is_w (Need d) (Flow f) (Flow f) (part_lets line w is_w (Need d) asked) (part_lets line w is_w (Flow f) there)
         (part_lets line w is_w (Flow f) there) in
-        one-answer-back (flow_lets_in line (alternative_at c p) f) (flow_lets_in line (alternative_at c q) f)
+        one-answer-back (flow_admits line (alternative_at c p) f) (flow_admits line (alternative_at c q) f)
         (sending_agrees line (alternatives_of line) d (alternative_at c p) (alternative_at c q) need at_d f flow at_f brings
         (agree c p q covers) below by_itself meet)
         (part_lets line w is_w (Flow f) there c q at_q)) there
@@ -129,24 +129,24 @@ module _ (line : ProductLine) (v w : List ℕ) (is_v : IsVariant line.choices.it
       abbrev r : ℕ
       r = answer.r
 
-      both_let : (c p : ℕ) → slice_get v c ≡ Some p → (flow_lets_in line (alternative_at c p) f && request_lets_in line (alternative_at c p) r) ≡ true
+      both_let : (c p : ℕ) → slice_get v c ≡ Some p → (flow_admits line (alternative_at c p) f && request_admits line (alternative_at c p) r) ≡ true
       both_let c p at_p =
           let (q, at_q, covers) = covered c p at_p in
           let meet = meet_by line w is_w (Need d) (Flow f) (Request r) (part_lets line w is_w (Need d) asked) (part_lets line w is_w (Flow f) there)
           (part_lets line w is_w (Request r) answer.there) in
-          one-answer-back (flow_lets_in line (alternative_at c p) f && request_lets_in line (alternative_at c p) r)
-          (flow_lets_in line (alternative_at c q) f && request_lets_in line (alternative_at c q) r)
+          one-answer-back (flow_admits line (alternative_at c p) f && request_admits line (alternative_at c p) r)
+          (flow_admits line (alternative_at c q) f && request_admits line (alternative_at c q) r)
           (answer_agrees line (alternatives_of line) d (alternative_at c p) (alternative_at c q) need at_d f flow at_f brings (agree c p q covers) below only r
           answer.request answer.request_is (slice_get_within line.plan.requests.items r answer.request answer.request_is) answer.serves_it meet)
           (and_from _ _ (part_lets line w is_w (Flow f) there c q at_q) (part_lets line w is_w (Request r) answer.there c q at_q))
 
       answer_here : is_flow_there line v f ≡ true
       answer_here = part_by line w v is_w is_v (Flow f) (λ c p at_p.
-          (and_parts (flow_lets_in line (alternative_at c p) f) (request_lets_in line (alternative_at c p) r) (both_let c p at_p)).0) there
+          (and_parts (flow_admits line (alternative_at c p) f) (request_admits line (alternative_at c p) r) (both_let c p at_p)).0) there
 
       request_here : is_request_there line v r ≡ true
       request_here = part_by line w v is_w is_v (Request r) (λ c p at_p.
-          (and_parts (flow_lets_in line (alternative_at c p) f) (request_lets_in line (alternative_at c p) r) (both_let c p at_p)).1) answer.there
+          (and_parts (flow_admits line (alternative_at c p) f) (request_admits line (alternative_at c p) r) (both_let c p at_p)).1) answer.there
 
   pub meets_back : (f : ℕ) → MeetsIn line w need f → MeetsIn line v need f
   meets_back f its = elim (cases_Bool its.flow.on_request) [
@@ -192,7 +192,7 @@ module _ (line : ProductLine) (v : List ℕ) (plan : Plan) (is : IsVariantPlan l
       → (f : ℕ) × MeetsIn line v need f × (files_at i ≡ Some f)
   of_file i y at_i met =
       let its = comes_from move (flags v line.lists.flows.items) line.plan.flows.items 0 i y (ap (λ l. slice_get l i) (sym is.has_flows) ∙ at_i) in
-      let (brings, comes) = and_parts (does_bring e y) (is_asked_for plan.requests.items y) (sym (meets_by plan.requests.items e y) ∙ met) in
+      let (brings, comes) = and_parts (provides e y) (is_asked_for plan.requests.items y) (sym (meets_by plan.requests.items e y) ∙ met) in
       let moved = flow_of its.value (place_at (group_places line v) its.value.group) (place_at (unit_places line v) its.value.sender)
       (moved_receivers (unit_places line v) its.value.to) y its.made in (
         its.k,

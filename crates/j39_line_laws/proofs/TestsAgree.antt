@@ -12,7 +12,7 @@ use Rattle.j39_network.specs.declared.plan.to.To.{To}
 use Rattle.j39_network.specs.declared.plan.to.To.TheVariants.{All as ToAll, One}
 use Rattle.j39_variants.proofs.Places.{flow_parts, need_parts, request_parts}
 use Rattle.j39_variants.specs.VariantPlans.{flow_between, IsCopyOfGroup, moved_flow, moved_from, moved_need, moved_receivers, moved_request, place_at, places}
-use Rattle.j39_line_findings.specs.FullVariants.{does_bring}
+use Rattle.j39_line_findings.specs.FullVariants.{provides}
 use Rattle.j39_line_laws.proofs.NamedPlaces.{same_places}
 
 pub both : (a b c d : Bool) → a ≡ c → b ≡ d → (a && b) ≡ (c && d)
@@ -63,7 +63,7 @@ module _ (units groups : List Bool) where
       by None is_o none = absurd (none-some s none)
       by (Some q) is_o is = ap (λ x. is_from x p) (sym (same_Some (Some q) s is)) ∙ same_places units i u p q at is_o
 
-  pub brings_same : (d e : NeedPlan) (f y : FlowPlan) → moved_need us gs d ≡ Some e → moved_flow us gs f ≡ Some y → does_bring e y ≡ does_bring d f
+  pub brings_same : (d e : NeedPlan) (f y : FlowPlan) → moved_need us gs d ≡ Some e → moved_flow us gs f ≡ Some y → provides e y ≡ provides d f
   brings_same d e f y needed sent =
       let of_d = need_parts d (place_at us d.unit) (place_at gs d.group) (moved_from us d.from) e needed in
       let of_f = flow_parts f (place_at gs f.group) (place_at us f.sender) (moved_receivers us f.to) y sent in

@@ -28,8 +28,8 @@ use Rattle.j39_variants.specs.VariantPlans.{flags, group_places, IsVariantPlan, 
 use Rattle.j39_variants.specs.Variants.{IsVariant}
 use Rattle.j39_line_findings.specs.FullVariants.{alternative_at, alternatives_of}
 use Rattle.j39_line_findings.specs.MissedNeeds.{is_need_asked_for}
-use Rattle.j39_line_findings.specs.There.{IsWhatIsThere}
-use Rattle.j39_line_findings.specs.declared.there.WhatIsThere.{WhatIsThere}
+use Rattle.j39_line_findings.specs.There.{IsPresent}
+use Rattle.j39_line_findings.specs.declared.there.Present.{Present}
 use Rattle.j39_part_laws.specs.PartLoads.{HasGoodNumbers}
 use Rattle.j39_part_laws.specs.PlanParts.{Places}
 use Rattle.j39_part_laws.proofs.LoadFindings.{itself, line_reported, none_of, of_late, of_overload, of_unpaced, one_of, reported_at, unplanned_there}
@@ -154,8 +154,8 @@ covered_by line d v w covered c p at_p =
     (q, at_q, covered_of line (alternatives_of line) (Some d) (alternative_at c p) (alternative_at c q) covers)
 
 module _ (line : ProductLine) (v w : List ℕ) (is_v : IsVariant line.choices.items v) (is_w : IsVariant line.choices.items w) (d : ℕ)
-    (covered : IsCoveredFor line (Some d) v w) (asked : is_need_asked_for line w d ≡ true) (these those : WhatIsThere) (are_these : IsWhatIsThere line v these)
-    (are_those : IsWhatIsThere line w those) (part whole : Plan) (here : IsVariantPlan line v part) (there : IsVariantPlan line w whole) (need : NeedPlan)
+    (covered : IsCoveredFor line (Some d) v w) (asked : is_need_asked_for line w d ≡ true) (these those : Present) (are_these : IsPresent line v these)
+    (are_those : IsPresent line w those) (part whole : Plan) (here : IsVariantPlan line v part) (there : IsVariantPlan line w whole) (need : NeedPlan)
     (at_d : slice_get line.plan.needs.items d ≡ Some need) (e f : NeedPlan) (made : move_need line v need ≡ Some e)
     (made_there : move_need line w need ≡ Some f) where
   abbrev by : IsCoveredBy line v w

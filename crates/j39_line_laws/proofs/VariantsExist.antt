@@ -21,9 +21,9 @@ use Rattle.j39_variants.proofs.Derived.{senders_of_needs, signals_of_needs, unit
 use Rattle.j39_variants.proofs.Places.{picked_count}
 use Rattle.j39_line_findings.specs.LineFound.{AreVariantFindings}
 use Rattle.j39_line_findings.specs.MissedNeeds.{is_group_there, is_unit_there}
-use Rattle.j39_line_findings.specs.There.{IsWhatIsThere, is_flow_there, is_need_there, is_request_there, places_of_those}
+use Rattle.j39_line_findings.specs.There.{IsPresent, is_flow_there, is_need_there, is_request_there, places_of_those}
 use Rattle.j39_line_findings.specs.declared.line_finding.LineFinding.{LineFinding}
-use Rattle.j39_line_findings.specs.declared.there.WhatIsThere.{WhatIsThere}
+use Rattle.j39_line_findings.specs.declared.there.Present.{Present}
 
 -- ---- lists in memory
 
@@ -161,7 +161,7 @@ module _ (line : ProductLine) (v : List ℕ) where
   abbrev places_there : (test : ℕ → Bool) (count : ℕ) → count ≤ 4096 → Vec ℕ
   places_there test count few = in_memory line.plan.units.alloc (places_of_those test count) (placed test count few)
 
-  pub some_there : (there : WhatIsThere) × IsWhatIsThere line v there
+  pub some_there : (there : Present) × IsPresent line v there
   some_there = (
     record {
       units = places_there (is_unit_there line v) (length line.plan.units.items) (let few = line.plan.unit_count in omega (arith, few));

@@ -19,14 +19,14 @@ use Rattle.j39_line_findings.specs.FullVariants.{line_with, nevers_with}
 use Rattle.j39_line_findings.specs.InFile.{rank_of}
 use Rattle.j39_line_findings.specs.PossibleVariants.{IsPossible}
 use Rattle.j39_line_findings.specs.LineFound.{AreVariantFindings, IsFound}
-use Rattle.j39_line_findings.specs.There.{IsWhatIsThere}
+use Rattle.j39_line_findings.specs.There.{IsPresent}
 use Rattle.j39_line_findings.specs.FlowEnds.{has_end_in_pool}
 use Rattle.j39_line_findings.specs.declared.full.LineNevers.{LineNevers}
 use Rattle.j39_line_findings.specs.declared.full.LineNevers.TheVariants.{Kept, LeftOut}
 use Rattle.j39_line_findings.specs.declared.line_finding.LineFinding.{LineFinding}
 use Rattle.j39_line_findings.specs.declared.line_finding.LineFinding.TheVariants.{OfPlan, OfLoad}
 use Rattle.j39_line_findings.specs.declared.rank.Rank.{Rank}
-use Rattle.j39_line_findings.specs.declared.there.WhatIsThere.{WhatIsThere}
+use Rattle.j39_line_findings.specs.declared.there.Present.{Present}
 use Rattle.j39_line_laws.specs.FoundOfCovering.{IsAbsentOrFound, is_by_absence}
 use Rattle.j39_line_laws.specs.WithoutNevers.{CountNothingWith, FullVariantsCountAll, NeversChangeNothingBuilt}
 use Rattle.j39_line_laws.proofs.FoundOfFull.{have_what_is_found}
@@ -42,7 +42,7 @@ module _ (line : ProductLine) (nevers : Vec (Vec Alternative Global) Global) (v 
   plan_of_others : (plan : Plan) → IsVariantPlan line v plan → IsVariantPlan others v plan
   plan_of_others plan is = grind (arith, is)
 
-  there_in_others : (there : WhatIsThere) → IsWhatIsThere line v there → IsWhatIsThere others v there
+  there_in_others : (there : Present) → IsPresent line v there → IsPresent others v there
   there_in_others there is = grind (arith, is)
 
   findings_of_others : (findings : List LineFinding) → AreVariantFindings line v findings → AreVariantFindings others v findings
@@ -63,7 +63,7 @@ module _ (line : ProductLine) (nevers : LineNevers) (v : List ℕ) where
   pub plan_back : (plan : Plan) → IsVariantPlan (line_with nevers line) v plan → IsVariantPlan line v plan
   plan_back = plan_of_others (line_with nevers line) line.nevers v
 
-  pub there_to : (there : WhatIsThere) → IsWhatIsThere line v there → IsWhatIsThere (line_with nevers line) v there
+  pub there_to : (there : Present) → IsPresent line v there → IsPresent (line_with nevers line) v there
   there_to = there_in_others line (nevers_with nevers line.nevers) v
 
   pub findings_to : (findings : List LineFinding) → AreVariantFindings line v findings → AreVariantFindings (line_with nevers line) v findings

@@ -7,7 +7,7 @@ use Rattle.j39_variants.specs.declared.line.Alternative.{Alternative}
 use Rattle.j39_variants.specs.declared.line.ProductLine.{ProductLine}
 use Rattle.j39_variants.specs.DescribedLines.{DescribesProductLine}
 use Rattle.j39_variants.specs.Variants.{is_in, IsVariant}
-use Rattle.j39_line_findings.specs.Boxes.{lets_in, part_lets_in}
+use Rattle.j39_line_findings.specs.Boxes.{admits, part_admits}
 use Rattle.j39_line_findings.specs.Conditions.{is_part_there}
 use Rattle.j39_line_findings.specs.FullVariants.{alternative_at}
 use Rattle.j39_line_findings.specs.declared.part.LinePart.{LinePart}
@@ -43,11 +43,11 @@ HasPart line (Request r) = r < length line.plan.requests.items
 
 -- its box has each alternative that the variant takes
 abbrev pub IsInPartBox : ProductLine → List ℕ → LinePart → Type 0
-IsInPartBox line variant part = (c k : ℕ) → slice_get variant c ≡ Some k → part_lets_in line (alternative_at c k) part ≡ true
+IsInPartBox line variant part = (c k : ℕ) → slice_get variant c ≡ Some k → part_admits line (alternative_at c k) part ≡ true
 
 -- that of a list does
 abbrev pub IsLetIn : List ℕ → List Alternative → Type 0
-IsLetIn variant list = (c k : ℕ) → slice_get variant c ≡ Some k → lets_in list (alternative_at c k) ≡ true
+IsLetIn variant list = (c k : ℕ) → slice_get variant c ≡ Some k → admits list (alternative_at c k) ≡ true
 
 -- ---- the laws
 

@@ -3,7 +3,7 @@ use Rattle.std.specs.Prelude.{◌≡◌, ℕ, List, Contains, true, Option, Some
 use Rattle.std.specs.List.{slice_get}
 use Rattle.j39_variants.specs.declared.line.ProductLine.{ProductLine}
 use Rattle.j39_variants.specs.Variants.{is_in, IsVariant}
-use Rattle.j39_line_findings.specs.FullVariants.{alternative_at, alternatives_of, does_need_let_in, full_alternatives, is_covered, is_covered_for}
+use Rattle.j39_line_findings.specs.FullVariants.{alternative_at, alternatives_of, does_need_admit, full_alternatives, is_covered, is_covered_for}
 
 -- each alternative that the first variant takes is covered by the one that the second takes of the same choice
 abbrev pub IsCoveredBy : ProductLine → List ℕ → List ℕ → Type 0
@@ -27,7 +27,7 @@ IsCoveredFor line need v w = (c p : ℕ) → slice_get v c ≡ Some p
 
 -- each alternative that the variant takes is in the box of the need
 abbrev pub IsInBoxOf : ProductLine → Option ℕ → List ℕ → Type 0
-IsInBoxOf line need variant = (c p : ℕ) → slice_get variant c ≡ Some p → does_need_let_in line need (alternative_at c p) ≡ true
+IsInBoxOf line need variant = (c p : ℕ) → slice_get variant c ≡ Some p → does_need_admit line need (alternative_at c p) ≡ true
 
 -- each is full for it
 abbrev pub TakesFullAlone : ProductLine → Option ℕ → List ℕ → Type 0

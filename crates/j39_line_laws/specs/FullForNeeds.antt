@@ -6,7 +6,7 @@ use Rattle.j39_network.specs.declared.plan.flow_plan.FlowPlan.{FlowPlan}
 use Rattle.j39_network.specs.declared.plan.need_plan.NeedPlan.{NeedPlan}
 use Rattle.j39_network.specs.declared.plan.request_plan.RequestPlan.{RequestPlan}
 use Rattle.j39_variants.specs.declared.line.ProductLine.{ProductLine}
-use Rattle.j39_line_findings.specs.FullVariants.{does_bring}
+use Rattle.j39_line_findings.specs.FullVariants.{provides}
 use Rattle.j39_line_findings.specs.There.{is_flow_there, is_request_there}
 
 -- a request is there that the flow answers
@@ -21,6 +21,6 @@ pub record IsAnswerIn (line : ProductLine) (variant : List ℕ) (flow : FlowPlan
 pub record MeetsIn (line : ProductLine) (variant : List ℕ) (need : NeedPlan) (f : ℕ) : Type 0 where
   pub flow : FlowPlan
   pub flow_is : slice_get line.plan.flows.items f ≡ Some flow
-  pub brings : does_bring need flow ≡ true
+  pub brings : provides need flow ≡ true
   pub there : is_flow_there line variant f ≡ true
   pub asked : flow.on_request ≡ true → IsAnswerIn line variant flow
