@@ -42,7 +42,6 @@ use Rattle.j39_line_laws.proofs.InVariant.{are_flows}
 use Rattle.j39_line_laws.proofs.PickedPlaces.{one_test}
 use Rattle.j39_line_laws.proofs.TestsAgree.{serves_same}
 use Rattle.j39_line_check.proofs.KeptConditions.{Agree, AreAmong, AreTwo, kept_parts, listed_all, other_two, turned}
-use Rattle.j39_line_check.specs.ReportedConditions.{HasInAll}
 
 -- ---- the requests of a variant, by their places in the file
 
@@ -214,7 +213,7 @@ module _ (plan : Plan) (others : List LoadFinding) where
 
 pub asked_kept : (line : ProductLine) (w v : List ℕ) → AreTwo line w v → (f : ℕ) → Agree (choices_of_parts line (parts_of_asked line f)) w v
     → (findings : List LineFinding) → AreVariantFindings line w findings → IsFound findings (OfLoad (AskedTooOften f))
-    → HasInAll line v (OfLoad (AskedTooOften f))
+    → (others : List LineFinding) → AreVariantFindings line v others → IsFound others (OfLoad (AskedTooOften f))
 asked_kept line w v two f agree findings are one others has =
     let (finding, among, is) = in_load line w findings are (AskedTooOften f) one in go finding among is
   where

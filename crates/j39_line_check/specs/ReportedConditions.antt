@@ -1,5 +1,5 @@
 -- What is reported of the witness of a finding is a condition: each variant that takes it has the finding.
-use Rattle.std.specs.Prelude.{◌≡◌, ◌⊎◌, ℕ, List, [], ◌∷◌, Bool, true, false, if◌then◌else◌}
+use Rattle.std.specs.Prelude.{◌≡◌, ℕ, List, [], ◌∷◌, Bool, true, false, if◌then◌else◌}
 use Rattle.j39_load.specs.LineLists.{lines_of_each}
 use Rattle.j39_load.specs.declared.findings.load_finding.LoadFinding.TheVariants.{AskedTooOften}
 use Rattle.j39_variants.specs.declared.line.Alternative.{Alternative}
@@ -8,12 +8,12 @@ use Rattle.j39_variants.specs.VariantPlans.{flag_at}
 use Rattle.j39_variants.specs.Variants.{IsFirstTaking, IsVariant, takes_all}
 use Rattle.j39_line_findings.specs.Conditions.{conditions_of, goes_by_conditions, meets_any}
 use Rattle.j39_line_findings.specs.FullVariants.{alternative_at}
-use Rattle.j39_line_findings.specs.LineFound.{AreVariantFindings, IsFound}
 use Rattle.j39_line_findings.specs.PossibleVariants.{IsPossible}
 use Rattle.j39_line_findings.specs.declared.line_finding.LineFinding.{LineFinding}
 use Rattle.j39_line_findings.specs.declared.line_finding.LineFinding.TheVariants.{OfLoad}
 use Rattle.j39_line_witnesses.specs.FirstMeeting.{IsFirstMeeting}
 use Rattle.j39_line_witnesses.specs.ReportedChoices.{reported_choices}
+use Rattle.j39_line_check.specs.LineChecks.{HasIt}
 
 -- the alternatives of a witness that are reported with a finding
 abbrev pub reported_of_choice : List Bool → ℕ → ℕ → List Alternative
@@ -30,18 +30,6 @@ pub record TakesWhatIsReported (line : ProductLine) (finding : LineFinding) (wit
   pub is_witness : IsVariant line.choices.items witness
   pub is_variant : IsVariant line.choices.items variant
   pub takes : takes_all variant (reported_with line finding witness) ≡ true
-
--- a variant has the finding: it is one of all its findings, whatever these are; or it is one of these
-abbrev pub HasInAll : ProductLine → List ℕ → LineFinding → Type 0
-HasInAll line variant finding = (findings : List LineFinding) → AreVariantFindings line variant findings → IsFound findings finding
-
-pub record HasInSome (line : ProductLine) (variant : List ℕ) (finding : LineFinding) : Type 0 where
-  pub findings : List LineFinding
-  pub are_findings : AreVariantFindings line variant findings
-  pub one : IsFound findings finding
-
-abbrev pub HasFound : ProductLine → List ℕ → LineFinding → Type 0
-HasFound line variant finding = HasInAll line variant finding ⊎ HasInSome line variant finding
 
 -- of a flow that is asked for too often not all alternatives of a witness are reported, though it counts what is there: those alone by which the
 -- flow and the requests for it are there
@@ -60,10 +48,9 @@ abbrev pub ReportedMayBeAll : Type 0
 ReportedMayBeAll = (line : ProductLine) (finding : LineFinding) → goes_by_conditions line finding ≡ false → is_of_requests finding ≡ false
     → (witness variant : List ℕ) → TakesWhatIsReported line finding witness variant → variant ≡ witness
 
--- of a witness of which it is known what is found
 abbrev pub ReportedIsHad : Type 0
 ReportedIsHad = (line : ProductLine) (finding : LineFinding) (witness variant : List ℕ) → TakesWhatIsReported line finding witness variant
-    → (findings : List LineFinding) → AreVariantFindings line witness findings → HasFound line witness finding → HasFound line variant finding
+    → IsPossible line variant → HasIt line witness finding → HasIt line variant finding
 
 -- a witness is possible, and the first that meets a condition of the finding, where this goes by conditions; but for flows that are asked for too often
 abbrev pub ReportedLeads : Type 0
