@@ -77,9 +77,9 @@ pub reported_is_had : ReportedIsHad
 reported_is_had line finding w v takes possible its = elim (cases_Bool (goes_by_conditions line finding)) [
   | inr counts ↦ counted_had line finding w v takes possible its counts
   | inl goes ↦ had line v finding (record {
-      possible = possible;
-      one = λ others are_others.
+    possible = possible;
+    one = λ others are_others.
         let (may, met) = (found_by_conditions line w its.findings its.are_findings finding goes).0 its.one in
         (found_by_conditions line v others are_others finding goes).1 (may, reported_is_condition line finding goes w v takes met);
-    })
+  })
 ]
