@@ -242,29 +242,29 @@ module _ (v : Vehicle) (delays : Delays) (stated : AreDelays v delays) (n : ℕ)
   kept b timing of_bus inside = elim (cases_Bool (eqb b x.bus)) [
     | inl is ↦
         let same : b ≡ x.bus = eqb-true b x.bus is in
-        subst (λ (s : SeenBus). IsOtherwiseKept v delays b timing (frames_asked (asked_on of_bus)) (scope_on (whole_vehicle v) b) s)
+        subst (λ (s : SeenBus). IsOtherwiseKept v delays b timing (asked_on of_bus).unplanned_end (frames_asked (asked_on of_bus)) (scope_on (whole_vehicle v) b) s)
         (sym (seen_x x.bus y.bus bus_x bus_y bus_none b is))
-        (subst (λ (c : ℕ). (other : IsKnownBus v delays c timing) → IsOtherwiseKept v delays c timing (frames_asked (asked_on other))
+        (subst (λ (c : ℕ). (other : IsKnownBus v delays c timing) → IsOtherwiseKept v delays c timing (asked_on other).unplanned_end (frames_asked (asked_on other))
         (scope_on (whole_vehicle v) c) bus_x) (sym same)
-        (λ other. lone_kept timing lone_x some_x (unit_true v x.bus timing (timed_of x.bus timing other)) (frames_asked (asked_on other))
+        (λ other. lone_kept timing lone_x some_x (unit_true v x.bus timing (timed_of x.bus timing other)) (asked_on other).unplanned_end (frames_asked (asked_on other))
         (subst (λ (tr : Traffic). Fits tr x.flow ident_x)
         (one_traffic v delays x.bus lone.timed_x.0 timing (known_bus v delays stated x.bus lone.timed_x.0 lone.timed_x.1) other) fits_of_x)
         (lone.in_order x.bus timing other) v delays x.bus (scope_on (whole_vehicle v) x.bus) (λ own. pace_x timing other)) of_bus)
     | inr isnt ↦ elim (cases_Bool (eqb b y.bus)) [
       | inl is ↦
           let same : b ≡ y.bus = eqb-true b y.bus is in
-          subst (λ (s : SeenBus). IsOtherwiseKept v delays b timing (frames_asked (asked_on of_bus)) (scope_on (whole_vehicle v) b) s)
+          subst (λ (s : SeenBus). IsOtherwiseKept v delays b timing (asked_on of_bus).unplanned_end (frames_asked (asked_on of_bus)) (scope_on (whole_vehicle v) b) s)
           (sym (seen_y x.bus y.bus bus_x bus_y bus_none b isnt is))
-          (subst (λ (c : ℕ). (other : IsKnownBus v delays c timing) → IsOtherwiseKept v delays c timing (frames_asked (asked_on other))
+          (subst (λ (c : ℕ). (other : IsKnownBus v delays c timing) → IsOtherwiseKept v delays c timing (asked_on other).unplanned_end (frames_asked (asked_on other))
           (scope_on (whole_vehicle v) c) bus_y) (sym same)
-          (λ other. lone_kept timing lone_y some_y (unit_true v y.bus timing (timed_of y.bus timing other)) (frames_asked (asked_on other))
+          (λ other. lone_kept timing lone_y some_y (unit_true v y.bus timing (timed_of y.bus timing other)) (asked_on other).unplanned_end (frames_asked (asked_on other))
           (subst (λ (tr : Traffic). Fits tr y.flow ident_y)
           (one_traffic v delays y.bus lone.timed_y.0 timing (known_bus v delays stated y.bus lone.timed_y.0 lone.timed_y.1) other) fits_of_y)
           (lone.in_order y.bus timing other) v delays y.bus (scope_on (whole_vehicle v) y.bus) (λ own. absurd (own is_sent_on))) of_bus)
       | inr neither ↦
-          subst (λ (s : SeenBus). IsOtherwiseKept v delays b timing (frames_asked (asked_on of_bus)) (scope_on (whole_vehicle v) b) s)
+          subst (λ (s : SeenBus). IsOtherwiseKept v delays b timing (asked_on of_bus).unplanned_end (frames_asked (asked_on of_bus)) (scope_on (whole_vehicle v) b) s)
           (sym (seen_other x.bus y.bus bus_x bus_y bus_none b isnt neither))
-          (none_kept v delays b timing (frames_asked (asked_on of_bus)) (scope_on (whole_vehicle v) b) (lone_none b) refl (omega arith)
+          (none_kept v delays b timing (asked_on of_bus).unplanned_end (frames_asked (asked_on of_bus)) (scope_on (whole_vehicle v) b) (lone_none b) refl (omega arith)
           (unit_true v b timing (timed_of b timing of_bus)))
     ]
   ]
