@@ -5,7 +5,7 @@ use Rattle.std.proofs.lemmas.Bool.{false≢true}
 use Rattle.std.proofs.lemmas.Option.{none-some, same_Some}
 use Rattle.j39_variants.specs.VariantPlans.{flag_at, picked, place_at, places}
 use Rattle.j39_part_laws.proofs.Places.{no_value}
-use Rattle.j39_line_laws.proofs.Boxes.{AreFewer}
+use Rattle.j39_line_laws.proofs.VariantBoxes.{AreFewer}
 use Rattle.j39_line_laws.proofs.Picking.{kept, place_there, thin}
 
 -- as many flags, all of which are set

@@ -18,7 +18,7 @@ use Rattle.j39_variants.specs.Variants.{is_in}
 use Rattle.j39_line_findings.specs.MissedNeeds.{is_in_at}
 use Rattle.j39_line_findings.specs.There.{is_flow_there, is_receiver_there, is_request_there}
 use Rattle.j39_part_laws.proofs.Places.{no_value}
-use Rattle.j39_line_laws.proofs.Boxes.{AreFewer}
+use Rattle.j39_line_laws.proofs.VariantBoxes.{AreFewer}
 use Rattle.j39_line_laws.proofs.Picking.{kept}
 
 -- ---- by a test, and by flags

@@ -9,7 +9,7 @@ use Rattle.j39_variants.specs.declared.line.ProductLine.{ProductLine}
 use Rattle.j39_line_findings.specs.Boxes.{is_one_alternative, admits}
 use Rattle.j39_line_findings.specs.FullVariants.{agree_on_need, alternative_at, do_keep, does_leave, does_need_admit, is_covered, is_covered_for}
 use Rattle.j39_line_laws.proofs.Agreeing.{agree-refl, agree-trans}
-use Rattle.j39_line_laws.proofs.Boxes.{keep_flows, keep_groups, keep_nevers, keep_requests, keep_units}
+use Rattle.j39_line_laws.proofs.VariantBoxes.{keep_flows, keep_groups, keep_nevers, keep_requests, keep_units}
 
 apart : (p q : ℕ) → q ≢ p → (p < q) ⊎ (q < p)
 apart p q differ = elim (cases_lt p q) [

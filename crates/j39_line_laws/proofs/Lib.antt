@@ -1,5 +1,5 @@
 pub mod Agreeing
-pub mod Boxes
+pub mod VariantBoxes
 pub mod Filtering
 pub mod FoundOfCovering
 pub mod Full

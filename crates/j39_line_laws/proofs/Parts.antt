@@ -16,7 +16,7 @@ use Rattle.j39_variants.specs.VariantPlans.{place_at}
 use Rattle.j39_variants.specs.VariantPlans.{request_between, unit_places}
 use Rattle.j39_part_laws.specs.PlanParts.{AreSome, IsFlowThere, IsGroupThere, IsPlanPart, IsPartAt, IsRequestThere, IsSame, Places, to_in}
 use Rattle.j39_line_laws.specs.Covering.{IsCoveredBy}
-use Rattle.j39_line_laws.proofs.Boxes.{AreFewer, fewer, keep_flows, keep_groups, keep_requests, keep_units, KeepAll}
+use Rattle.j39_line_laws.proofs.VariantBoxes.{AreFewer, fewer, keep_flows, keep_groups, keep_requests, keep_units, KeepAll}
 use Rattle.j39_line_laws.proofs.Picking.{kept, place_there, some_copied, some_kept, some_picked, thin}
 
 -- two copies of one group

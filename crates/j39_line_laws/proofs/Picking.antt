@@ -8,7 +8,7 @@ use Rattle.j39_search.specs.ListPlaces.{ValueAt}
 use Rattle.j39_variants.specs.VariantPlans.{picked, place_at, places}
 use Rattle.j39_part_laws.specs.PlanParts.{AreSome, IsSame}
 use Rattle.j39_part_laws.proofs.Places.{no_value}
-use Rattle.j39_line_laws.proofs.Boxes.{AreFewer}
+use Rattle.j39_line_laws.proofs.VariantBoxes.{AreFewer}
 
 -- where what is picked by the first flags stands among what is picked by the second
 abbrev pub thin : List Bool → List Bool → ℕ → ℕ

@@ -14,7 +14,7 @@ use Rattle.j39_line_findings.specs.There.{is_flow_there, is_request_there, IsPre
 use Rattle.j39_line_findings.specs.declared.there.Present.{Present}
 use Rattle.j39_part_laws.proofs.Places.{value_at}
 use Rattle.j39_line_laws.specs.Covering.{IsCoveredBy}
-use Rattle.j39_line_laws.proofs.Boxes.{AreFewer}
+use Rattle.j39_line_laws.proofs.VariantBoxes.{AreFewer}
 use Rattle.j39_line_laws.proofs.Filtering.{filtered, flow_test, kept_at, kept_fewer, length-kept, parallel, parallel_kept, request_test, test_in}
 use Rattle.j39_line_laws.proofs.Parts.{at, flow_here, flow_in, flow_there, flows_fewer, groups_fewer, groups_there, request_here, request_in}
 use Rattle.j39_line_laws.proofs.Parts.{request_there, requests_fewer, units_fewer, units_there}

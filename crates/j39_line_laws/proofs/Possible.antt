@@ -10,7 +10,7 @@ use Rattle.j39_variants.specs.Variants.{is_in, is_possible, IsVariant}
 use Rattle.j39_line_findings.specs.FullVariants.{alternative_at, do_keep}
 use Rattle.j39_part_laws.proofs.Places.{value_at}
 use Rattle.j39_line_laws.specs.Covering.{IsCoveredBy}
-use Rattle.j39_line_laws.proofs.Boxes.{AreFewer, fewer, keep_nevers, KeepAll}
+use Rattle.j39_line_laws.proofs.VariantBoxes.{AreFewer, fewer, keep_nevers, KeepAll}
 
 -- no box that has the second variant lacks the first
 no_more : (nevers : List (Vec Alternative Global)) (v w : List ℕ) → AreFewer (flags w nevers) (flags v nevers) → is_possible nevers v ≡ true

@@ -26,7 +26,7 @@ use Rattle.j39_line_findings.specs.declared.part.LinePart.TheVariants.{Flow, Nee
 use Rattle.j39_line_laws.specs.Covering.{IsCoveredBy, IsCoveredFor}
 use Rattle.j39_line_laws.proofs.Agreeing.{answer_agrees, one-answer-back, sending_agrees}
 use Rattle.j39_line_findings.proofs.Tests.{any_at, at_any}
-use Rattle.j39_line_laws.proofs.Boxes.{AreFewer}
+use Rattle.j39_line_laws.proofs.VariantBoxes.{AreFewer}
 use Rattle.j39_line_laws.proofs.Filtering.{flow_test, request_test, test_in}
 use Rattle.j39_line_laws.proofs.Parts.{flow_of, flows_fewer, groups_fewer, requests_fewer, units_fewer}
 use Rattle.j39_line_laws.proofs.Picking.{kept}

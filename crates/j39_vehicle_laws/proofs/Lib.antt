@@ -12,7 +12,7 @@ pub mod Places
 pub mod PlainForwards
 pub mod Values
 pub mod Clocks
-pub mod Gateways
+pub mod GatewayStreams
 pub mod Vehicles
 pub mod KnownVehicle
 mod Arriving

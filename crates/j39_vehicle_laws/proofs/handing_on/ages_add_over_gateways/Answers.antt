@@ -1,4 +1,4 @@
-use Rattle.j39_vehicle_laws.proofs.Gateways.{comes_by_itself, comes_directly, comes_young, old_at_most, young_at_last}
+use Rattle.j39_vehicle_laws.proofs.GatewayStreams.{comes_by_itself, comes_directly, comes_young, old_at_most, young_at_last}
 use Rattle.j39_vehicle_laws.proofs.handing_on.ages_add_over_gateways.Goals as goal
 
 pub returns : goal.returns
