@@ -15,7 +15,8 @@ use Rattle.j39_line_check.proofs.Had.{had}
 use Rattle.j39_line_check.proofs.KeptConditions.{Agree, AreTwo, kept_any}
 use Rattle.j39_line_check.proofs.TakenReported.{agreed, all_agreed, own_taken}
 use Rattle.j39_line_check.specs.LineChecks.{HasIt}
-use Rattle.j39_line_check.specs.ReportedConditions.{is_of_requests, TakesWhatIsReported, ReportedIsCondition, ReportedIsHad, ReportedMayBeAll}
+use Rattle.j39_line_check.specs.ReportedConditions.{is_of_requests, TakesWhatIsReported, ReportedIsCondition, ReportedIsHad, ReportedLeads}
+use Rattle.j39_line_check.specs.ReportedConditions.{ReportedMayBeAll}
 
 -- ---- by conditions
 
@@ -83,3 +84,25 @@ reported_is_had line finding w v takes possible its = elim (cases_Bool (goes_by_
         (found_by_conditions line v others are_others finding goes).1 (may, reported_is_condition line finding goes w v takes met);
   })
 ]
+
+-- ---- the witness is the first that takes what is reported
+
+not_earlier : (v : List ℕ) → ¬ IsEarlier v v
+not_earlier [] earlier = earlier
+not_earlier (p ∷ v) (inl less) = absurd (omega (arith, less))
+not_earlier (p ∷ v) (inr (same, earlier)) = not_earlier v earlier
+
+pub reported_leads : ReportedLeads
+reported_leads line finding whole w possible first = record {
+  is_taking = record { is_variant = possible.is_variant; possible = possible.possible; takes_these = own_taken (reported_choices line w finding) w };
+  first = λ v taking earlier.
+      let takes : TakesWhatIsReported line finding w v = record
+      { is_witness = possible.is_variant; is_variant = taking.is_variant; takes = taking.takes_these } in
+      elim (cases_Bool (goes_by_conditions line finding)) [
+        | inl goes ↦
+            let its = first goes in
+            its.first v (record { is_variant = taking.is_variant; possible = taking.possible })
+            (reported_is_condition line finding goes w v takes its.meets) earlier
+        | inr counts ↦ not_earlier w (subst (λ x. IsEarlier x w) (reported_may_be_all line finding counts whole w v takes) earlier)
+      ];
+}
