@@ -20,7 +20,7 @@ pub mod CountedOfVariants
 pub mod Counts
 pub mod Enumerated
 pub mod Filters
-pub mod LookedAt
+pub mod VariantsLookedAt
 pub mod NeedLists
 pub mod OfSets
 pub mod OneNumber

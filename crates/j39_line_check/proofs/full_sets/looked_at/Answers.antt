@@ -4,7 +4,7 @@ use Rattle.j39_line_findings.specs.FullVariants.{line_with}
 use Rattle.j39_line_check.specs.FullSets.{AreLookedAt}
 use Rattle.j39_line_check.specs.SetVariants.{AreVariantsOfSets}
 use Rattle.j39_line_check.proofs.Filters.{kept_values}
-use Rattle.j39_line_check.proofs.LookedAt.{are_looked_at}
+use Rattle.j39_line_check.proofs.VariantsLookedAt.{are_looked_at}
 use Rattle.j39_line_check.proofs.full_sets.looked_at.Goals as goal
 
 pub returns : goal.returns
