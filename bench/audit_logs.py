@@ -19,9 +19,11 @@ import tempfile
 from pathlib import Path
 
 sys.dont_write_bytecode = True
-from audit_plans import ALL, CLAIM, CLAIMS_ASKED, FRAME_BYTES, NULL, PACKETS, REQUEST, SECOND, TRANSPORT, Flow, Frame, Group, Line, Plan, Unit
+from audit_plans import ALL, CLAIM, CLAIMS_ASKED, FRAME_BYTES, NULL, PACKETS, REQUEST, SECOND, TRANSPORT, Flow, Frame, Group, Line, Plan, Request, Unit
 from audit_reference import Reference
 
+# The lines that are compared.
+TOLD = ("address unit ", "cannot unit ", "deaf unit ", "no_flow unit ", "near flow ", "near packets ", "near_or_late flow ", "silent ", "silent_or_late ")
 PROGRAM = os.environ.get("J39PLAN", str(Path(__file__).resolve().parent.parent / "j39plan"))
 
 
@@ -30,7 +32,9 @@ def random_plan(dice: random.Random) -> Plan:
     groups = [Group("G1", 61444, 3, 8, 8), Group("G2", 65260, 6, 18, 18), Group("G3", 0, 6, 8, 8), Group("G4", 65100, 6, 4, 12)]
     flows = [Flow(0, 0, None, 10, dice.choice([20, 25]), dice.choice([0, 2])), Flow(1, 0, None, 100, 200), Flow(2, 0, 2, 10, 30, dice.choice([0, 3])),
              Flow(2, 0, 3, 10, 40), Flow(3, 1, None, 10, 15), Flow(2, 2, 0, 10, 15), Flow(0, 1, None, 20, dice.choice([None, 20]), 5)]
-    return Plan(units, groups, flows, dice.choice([0, 0, 500, 20000]), dice.choice([None, None, (1, 50), (3, 100)]))
+    requests = [Request(0, 1, 0, 100), Request(2, 3, 0, 50), Request(1, 2, None, None), Request(2, 0, 2, 20)]
+    asked = [it for it in requests if dice.random() < 0.3]
+    return Plan(units, groups, flows, asked, dice.choice([0, 0, 500, 20000]), dice.choice([None, None, (1, 50), (3, 100)]))
 
 
 def random_claim(dice: random.Random, plan: Plan, time: int | None) -> Frame:
@@ -48,8 +52,9 @@ def random_line(dice: random.Random, plan: Plan, at: int) -> Line:
     if kind < 0.55:
         return Frame(time, dice.choice([3] * 40 + [6]), 61444, ALL, dice.choice([0, 0, 0, 0, 3]), bytes(dice.choice([8] * 40 + [7])))
     if kind < 0.62:
-        announced = bytes([0x20, 18, 0, 3, ALL]) + (65260).to_bytes(3, "little")
-        return Frame(time, dice.choice([7, 7, 6]), TRANSPORT, ALL, 0, announced)
+        to, source = (ALL, 0) if dice.random() < 0.8 else dice.choice([(ALL, 3), (3, 0), (128, 0), (0, 128)])
+        announced = bytes([0x20 if to == ALL else 0x10, 18, 0, 3, ALL]) + (65260).to_bytes(3, "little")
+        return Frame(time, dice.choice([7, 7, 6]), TRANSPORT, to, source, announced)
     if kind < 0.76:
         return Frame(time, 6, 0, dice.choice([128, 128, 129, 129, 140, 3, ALL]), 0, bytes(8))
     if kind < 0.81:
@@ -59,10 +64,16 @@ def random_line(dice: random.Random, plan: Plan, at: int) -> Line:
     if kind < 0.91:
         return random_claim(dice, plan, time)
     if kind < 0.93:
-        return Frame(time, 6, REQUEST, dice.choice([ALL, ALL, 0, 3, 128, 129]), dice.choice([NULL, NULL, 0, 3, 128]), CLAIMS_ASKED)
+        return random_request(dice, time)
     if kind < 0.96:
         return Frame(time, 6, *dice.choice([(PACKETS, ALL, 0)] * 3 + [(65000, ALL, 3), (65000, ALL, 0)]), bytes(8))
     return dice.choice([("junk", "bad"), ("(1.0) can0 XYZ#00", "bad"), (f"({at // SECOND}.{at % SECOND:06d}) can0 123#00", "skipped"), ("", "empty")])
+
+
+def random_request(dice: random.Random, time: int | None) -> Frame:
+    """A request for claims, or for a group."""
+    number = CLAIMS_ASKED if dice.random() < 0.5 else dice.choice([61444, 61444, 0, 0, 65260, 65100]).to_bytes(3, "little")
+    return Frame(time, 6, REQUEST, dice.choice([ALL, ALL, 0, 3, 128, 129]), dice.choice([NULL, NULL, 0, 3, 128, 42]), number)
 
 
 def random_log(dice: random.Random, plan: Plan) -> list[Line]:
@@ -121,12 +132,13 @@ def answered(plan: Plan, lines: list[Line], is_part: bool, stamps: int, quiet: i
     if ran.returncode > 1 or not answer or not answer[-1].startswith("deviations "):
         raise SystemExit(f"audit answers {ran.stdout}{ran.stderr}")
     again = ["again " + "".join(re.findall(r" again (\d+)$", line) or "0") for line in answer if line.startswith("frames ")]
-    return [line for line in answer if line.startswith(("address unit ", "cannot unit ", "deaf unit ", "near flow ", "near packets ", "near_or_late flow ", "silent ", "silent_or_late "))] + again
+    answers = [f"answers {unit} {count}" for line in answer for unit, count in re.findall(r"^unit (\S+) frames \d+ answers (\d+)$", line)]
+    return [line for line in answer if line.startswith(TOLD)] + answers + again
 
 
 def main(words: list[str]) -> int:
     count, seed = int(words[0]) if words else 200, int(words[1]) if words[1:] else 1
-    differences, told = 0, {word: 0 for word in ("address", "cannot", "deaf", "near", "near_or_late", "silent", "silent_or_late", "again")}
+    differences, told = 0, {word: 0 for word in ("address", "cannot", "deaf", "no_flow", "near", "near_or_late", "silent", "silent_or_late", "answers", "again")}
     with tempfile.TemporaryDirectory(prefix="j39plan-audits-") as folder:
         for number in range(count):
             dice = random.Random(f"{seed} {number}")

@@ -47,14 +47,24 @@ class Flow(NamedTuple):
     jitter: int = 0
 
 
+class Request(NamedTuple):
+    """A request by the places of its group and its units, to all where `to` is None. Its period is in milliseconds."""
+
+    group: int
+    sender: int
+    to: int | None
+    period: int | None
+
+
 class Plan(NamedTuple):
     units: list[Unit]
     groups: list[Group]
     flows: list[Flow]
+    requests: list[Request]
     drift: int
     errors: tuple[int, int] | None
 
-    def receiver(self, flow: Flow) -> str:
+    def receiver(self, flow: Flow | Request) -> str:
         return "all" if flow.to is None else self.units[flow.to].label
 
     def toml(self) -> str:
@@ -72,6 +82,9 @@ class Plan(NamedTuple):
             lines += ["[[flow]]", f'group = "{self.groups[flow.group].label}"', f'from = "{self.units[flow.sender].label}"']
             lines += [f'to = "{self.receiver(flow)}"', f"period = {flow.period}", f"jitter = {flow.jitter}"]
             lines += [f"pause = {flow.pause}"] if flow.pause else []
+        for request in self.requests:
+            lines += ["[[request]]", f'group = "{self.groups[request.group].label}"', f'from = "{self.units[request.sender].label}"']
+            lines += [f'to = "{self.receiver(request)}"', *([f"period = {request.period}"] if request.period else [])]
         return "\n".join(lines) + "\n"
 
 
@@ -99,7 +112,13 @@ Line = Frame | tuple[str, str]
 
 
 def is_announcement(frame: Frame) -> bool:
-    """Whether a frame of the transport protocol announces a message to all."""
+    """Whether a frame of the transport protocol announces a message, to all or to one."""
     data = frame.data
     size = data[1] | data[2] << 8
-    return FRAME_BYTES < size <= LONGEST and data[3] == whole(size, PACKET_BYTES) and (data[0], data[4], frame.to) == (0x20, ALL, ALL)
+    is_right = FRAME_BYTES < size <= LONGEST and data[3] == whole(size, PACKET_BYTES)
+    return is_right and data[0] == (0x20 if frame.to == ALL else 0x10)
+
+
+def announced(frame: Frame) -> tuple[int, int]:
+    """The number and the size of the message that it announces."""
+    return int.from_bytes(frame.data[5:8], "little"), frame.data[1] | frame.data[2] << 8

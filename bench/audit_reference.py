@@ -3,11 +3,12 @@
 from __future__ import annotations
 
 from dataclasses import dataclass, field
+from typing import NamedTuple
 
-from audit_plans import ALL, CLAIM, CLAIMS_ASKED, FRAME_BYTES, NULL, PACKETS, POOL, REQUEST, SECOND, TRANSPORT, Flow, Frame, Plan, is_announcement, whole
+from audit_plans import ALL, CLAIM, CLAIMS_ASKED, FRAME_BYTES, NULL, PACKETS, POOL, REQUEST, SECOND, TRANSPORT, Flow, Frame, Plan, announced, is_announcement, whole
 
 BIT = 4
-LONGEST_ANSWER_MS = 250
+LONGEST_ANSWER_MS, LONGEST_REPLY_MS = 250, 1250
 GAP_MS, LONGEST_GAP_MS = 50, 200
 LEAST_QUIET_MS, MOST_QUIET_MS = 100, 1000
 # The fewest bits of a frame of no bytes, with those behind it; each byte has eight more.
@@ -58,6 +59,15 @@ class Addresses:
         return found[0] if len(found) == 1 and not self.is_taken(address) else None
 
 
+class Asked(NamedTuple):
+    """A frame that asks its destination for a number: its time, if times haven't begun anew since, and whether it is one of the plan's requests."""
+
+    number: int
+    to: int
+    time: int | None
+    is_planned: bool
+
+
 class Reference:
     """What is told of the flows and units of a plan by a log, whose lines' times may differ by so many microseconds."""
 
@@ -80,6 +90,9 @@ class Reference:
         self.begun: dict[int, tuple[int, int, int]] = {}  # of a unit's planned broadcast the packets left, and the latest end and the line of the frame before
         self.asked: dict[int, tuple[int, int]] = {}  # when the request for claims to a unit ended at the latest, and its line
         self.taken: tuple[int, Frame, list[int]] | None = None  # the frame before, if no other line stands between, with its line and the flows of which it may be
+        self.requests: list[Asked] = []
+        self.without_flow: dict[tuple[int, int], list[int]] = {}  # of units and groups the lines of messages that no flow brings there
+        self.answers: dict[int, int] = {}  # how many of these a unit was asked for
         self.again = 0  # how many frames stand in the log again
 
     def longest(self, ms: int) -> int:
@@ -134,13 +147,49 @@ class Reference:
     def forget(self) -> None:
         self.latest, self.shown, self.begun = {}, {}, {}
 
-    def drop(self, sender: int, frame: Frame) -> None:
+    # ---- requests
+
+    def take_request(self, frame: Frame, sender: int | None) -> None:
+        """Takes a frame that asks for a number."""
+        number = int.from_bytes(frame.data, "little")
+        self.requests.append(Asked(number, frame.to, frame.time, sender is not None and self.is_request(sender, number, frame.to)))
+
+    def is_request(self, sender: int, number: int, to: int) -> bool:
+        """Whether it is one request of the plan: the nearest one."""
+        found = [it for it in self.plan.requests if it.sender == sender and self.plan.groups[it.group].pgn == number and self.hears(it.to, to)]
+        near = [it for it in found if it.to is None or self.addresses.may_be(it.to, to)]
+        return len(near or found) == 1
+
+    def hears(self, receiver: int | None, to: int) -> bool:
+        """Whether a frame to an address goes to a unit, which may have left it just now, or to all."""
+        return to == ALL if receiver is None else to != ALL and (self.addresses.is_own(receiver, to) or self.addresses.last(receiver) == to)
+
+    def was_asked(self, number: int, frame: Frame, is_besides: bool) -> bool:
+        """Whether a message was asked for, by any request or by one that is none of the plan's."""
+        asked = [it for it in self.requests if it.number == number and it.to in (ALL, frame.source) and not (is_besides and it.is_planned)]
+        if frame.time is None:
+            return bool(asked)
+        earliest = frame.time - self.longest(LONGEST_REPLY_MS) - 2 * self.stamps
+        return any(it.time is not None and it.time >= earliest for it in asked)
+
+    def drop(self, line: int, sender: int, frame: Frame) -> None:
         """A message that no flow brings deviates, where its number is a group's: of the flows with this number nothing is awaited any more."""
-        number = int.from_bytes(frame.data[5:8], "little") if frame.pgn == TRANSPORT and is_announcement(frame) else frame.pgn
+        number, size = announced(frame) if frame.pgn == TRANSPORT else (frame.pgn, len(frame.data))
+        self.note_without_flow(line, sender, frame, number, size)
         for place, flow in enumerate(self.plan.flows):
             if flow.sender == sender and self.plan.groups[flow.group].pgn == number:
                 for bound in (BY_BUS, BY_LOAD):
                     self.latest.pop((bound, place), None)
+
+    def note_without_flow(self, line: int, sender: int, frame: Frame, number: int, size: int) -> None:
+        """A message of a group that no flow brings there, with whatever priority, is told, unless it was asked for."""
+        group = next((place for place, it in enumerate(self.plan.groups) if it.pgn == number and it.length <= size <= it.most), None)
+        if group is None or self.brought(sender, frame, number, size):
+            return
+        if self.was_asked(number, frame, False):
+            self.answers[sender] = self.answers.get(sender, 0) + 1
+        else:
+            self.without_flow.setdefault((sender, group), []).append(line)
 
     def is_again(self, frame: Frame) -> bool:
         """Whether a frame is the one before, which stands in the log again: it comes sooner than it can have been sent once more."""
@@ -153,8 +202,10 @@ class Reference:
     def take_again(self, time: int) -> None:
         """Stamps may be off, so that both were sent: what counts from the end of the line before counts from this one."""
         assert self.taken
-        line, _, flows = self.taken
+        line, frame, flows = self.taken
         self.again += 1
+        if frame.pgn == REQUEST:
+            self.requests.append(self.requests[-1]._replace(time=time))
         self.before = time
         for bound in (BY_BUS, BY_LOAD):
             if len(flows) == 1 and (bound, flows[0]) in self.latest:
@@ -193,10 +244,11 @@ class Reference:
                 self.end_at_claim(claimant, frame.source)
             for place in flows if len(flows) > 1 else []:
                 self.end(place)
-            if sender is not None and not flows and frame.pgn != REQUEST and (frame.pgn != TRANSPORT or is_announcement(frame)):
-                self.drop(sender, frame)
+        if sender is not None and not flows and frame.pgn not in (REQUEST, PACKETS) and (frame.pgn != TRANSPORT or is_announcement(frame)):
+            self.drop(line, sender, frame)
+        if frame.time is not None:
             if len(flows) == 1:
-                self.take_message(line, frame.time, flows[0], frame.pgn != TRANSPORT)
+                self.take_message(line, frame, frame.time, flows[0])
             if frame.pgn == REQUEST and frame.data == CLAIMS_ASKED:
                 self.ask(line, frame.time + self.stamps, frame.source, frame.to)
             if sender is not None:
@@ -213,6 +265,8 @@ class Reference:
             self.addresses.names.append((int.from_bytes(frame.data, "little"), frame.source))
             self.addresses.claims.append((claimant, frame.source))
             self.addresses.recent.append((claimant, frame.source))
+        if frame.pgn == REQUEST:
+            self.take_request(frame, sender)
         return flows
 
     def see_time(self, time: int | None) -> bool:
@@ -226,6 +280,7 @@ class Reference:
         if time is None or is_back:
             self.before = self.idle = None
             self.earliest = {}
+            self.requests = [it._replace(time=None) for it in self.requests]
         self.greatest = time if time is None or is_back or self.greatest is None else max(self.greatest, time)
         self.last = time
         if is_back or is_quiet:
@@ -271,7 +326,7 @@ class Reference:
     def take_broadcast(self, line: int, time: int, frame: Frame, unit: int, flows: list[int]) -> None:
         """A planned broadcast begins with what announces it, and then has packets: all flows of the plan have a period."""
         data, latest = frame.data, time + self.stamps
-        if frame.pgn == TRANSPORT and is_announcement(frame):
+        if frame.pgn == TRANSPORT and frame.to == ALL and is_announcement(frame):
             self.begun.pop(unit, None)
             if flows:
                 self.begun[unit] = data[3], latest, line
@@ -284,26 +339,19 @@ class Reference:
 
     def flows_of(self, sender: int, frame: Frame) -> list[int]:
         """The flows of which a frame, or what it announces, may be a message: the nearest ones."""
-        number, size, priority, data = frame.pgn, len(frame.data), frame.priority, frame.data
-        if number in (CLAIM, REQUEST, PACKETS):
+        if frame.pgn in (CLAIM, REQUEST, PACKETS) or (frame.pgn == TRANSPORT and not is_announcement(frame)):
             return []
-        if number == TRANSPORT:
-            size, number = data[1] | data[2] << 8, int.from_bytes(data[5:8], "little")
-            if not is_announcement(frame):
-                return []
-        is_single = frame.pgn != TRANSPORT
-        is_broadcast = is_single and frame.is_broadcast()
-
-        def is_of(flow: Flow) -> bool:
-            group, to = self.plan.groups[flow.group], flow.to
-            is_fit = group.pgn == number and group.length <= size <= group.most and (not is_single or group.priority == priority)
-            if not is_fit or flow.sender != sender or is_broadcast:
-                return is_fit and flow.sender == sender
-            return frame.to == ALL if to is None else frame.to != ALL and (self.addresses.is_own(to, frame.to) or self.addresses.last(to) == frame.to)
-
-        found = [place for place, flow in enumerate(self.plan.flows) if is_of(flow)]
-        near = [it for it in found if is_broadcast or (to := self.plan.flows[it].to) is None or self.addresses.may_be(to, frame.to)]
+        number, size = announced(frame) if frame.pgn == TRANSPORT else (frame.pgn, len(frame.data))
+        is_single, flows = frame.pgn != TRANSPORT, self.plan.flows
+        found = [it for it in self.brought(sender, frame, number, size) if not is_single or self.plan.groups[flows[it].group].priority == frame.priority]
+        near = [it for it in found if (is_single and frame.is_broadcast()) or (to := flows[it].to) is None or self.addresses.may_be(to, frame.to)]
         return near or found
+
+    def brought(self, sender: int, frame: Frame, number: int, size: int) -> list[int]:
+        """The flows of the unit that bring such a message there, with whatever priority."""
+        is_broadcast = frame.pgn != TRANSPORT and frame.is_broadcast()
+        groups = {place for place, it in enumerate(self.plan.groups) if it.pgn == number and it.length <= size <= it.most}
+        return [place for place, it in enumerate(self.plan.flows) if it.sender == sender and it.group in groups and (is_broadcast or self.hears(it.to, frame.to))]
 
     def take_step(self, word: str, stream: tuple[str, int], place: int, line: int, upper: int, lower: int | None, step: int) -> None:
         """The messages of a stream are a step apart."""
@@ -315,14 +363,18 @@ class Reference:
             earliest = lower
         self.earliest[stream] = earliest
 
-    def take_message(self, line: int, time: int, place: int, is_single: bool) -> None:
-        if (self.plan.groups[self.plan.flows[place].group].most <= FRAME_BYTES) == is_single:
+    def take_message(self, line: int, frame: Frame, time: int, place: int) -> None:
+        """A message of a flow; one that was asked for besides the plan may have been sent besides the flow's."""
+        group, is_single = self.plan.groups[self.plan.flows[place].group], frame.pgn != TRANSPORT
+        if (group.most <= FRAME_BYTES) == is_single:
+            is_besides = self.was_asked(group.pgn, frame, True)
             for bound in (BY_BUS, BY_LOAD):
-                self.take_bounds(bound, line, place, self.lower(bound, place, self.idle, time), time + self.stamps)
+                self.take_bounds(bound, line, place, self.lower(bound, place, self.idle, time), time + self.stamps, is_besides)
 
-    def take_bounds(self, bound: str, line: int, place: int, lower: int | None, upper: int) -> None:
+    def take_bounds(self, bound: str, line: int, place: int, lower: int | None, upper: int, is_besides: bool) -> None:
         flow, key = self.plan.flows[place], (bound, place)
-        self.take_step(f"near{bound} flow", key, place, line, upper, lower, self.shortest(flow.period))
+        if not is_besides:
+            self.take_step(f"near{bound} flow", key, place, line, upper, lower, self.shortest(flow.period))
         pause = self.pause(flow)
         if pause is None:
             return
@@ -342,6 +394,8 @@ class Reference:
         found = [f"{word} unit {self.plan.units[place].label}{f' at {self.places[place]}' if word == 'address' else ''} times {len(told)} first {told[0][0]}"
                  for word, place, told in claims if told]
         found += [f"deaf unit {label} times {len(told)} first {told[0][0]}" for label, told in deaf]
+        found += [f"no_flow unit {self.plan.units[unit].label} group {self.plan.groups[group].label} times {len(told)} first {told[0]}"
+                  for (unit, group), told in sorted(self.without_flow.items())]
         flows = [f"{at} {self.plan.groups[it.group].label} {self.plan.units[it.sender].label} {self.plan.receiver(it)}" for at, it in enumerate(self.plan.flows, 1)]
         for first, kind in (("near", "flow"), ("near", "packets"), ("silent", "flow"), ("silent", "packets")):
             for place, name in enumerate([unit.label for unit in self.plan.units] if kind == "packets" else flows):
@@ -350,4 +404,5 @@ class Reference:
                     by = max(it[1] for it in told)
                     worst = next(it[0] for it in told if it[1] == by)
                     found.append(f"{word} {name} times {len(told)} first {told[0][0]} worst {worst} by {by} us")
-        return [*found, f"again {self.again}"]
+        answers = [f"answers {unit.label} {self.answers[place]}" for place, unit in enumerate(self.plan.units) if place in self.answers]
+        return [*found, *answers, f"again {self.again}"]
