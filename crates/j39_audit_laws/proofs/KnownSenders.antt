@@ -111,14 +111,14 @@ is_other a h = is_none h.unit && h.source == a
 
 other_of : (a : ℕ) (claims : List Heard) → Any (λ (h : Heard). is_other a h ≡ true) claims → Any (λ (h : Heard). (h.unit ≡ None) × (h.source ≡ a)) claims
 other_of a claims (k, h, inside, at, is) =
-    let (stranger, there) = and_parts (is_none h.unit) (h.source == a) is in (k, h, inside, at, none_of h.unit stranger, eqb-true h.source a there)
+    let (stranger, there) = and_parts (is_none h.unit) (h.source == a) is in (k, h, inside, at, (none_of h.unit stranger, eqb-true h.source a there))
   where
     none_of : (o : Option ℕ) → is_none o ≡ true → o ≡ None
     none_of None is = refl
     none_of (Some u) is = absurd (true≢false (sym is))
 
 of_other : (a : ℕ) (claims : List Heard) → Any (λ (h : Heard). (h.unit ≡ None) × (h.source ≡ a)) claims → Any (λ (h : Heard). is_other a h ≡ true) claims
-of_other a claims (k, h, inside, at, stranger, there) =
+of_other a claims (k, h, inside, at, (stranger, there)) =
     (k, h, inside, at, and_from (is_none h.unit) (h.source == a) (ap is_none stranger) (eq-eqb h.source a there))
 
 pub others_unsure : OthersAreUnsure

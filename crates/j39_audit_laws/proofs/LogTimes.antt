@@ -43,12 +43,12 @@ breaks_so stamps newest time = (
 
 greater : (times : List ℕ) (newest time : ℕ) → IsGreatest times newest → IsGreatest (time ∷ times) (max newest time)
 greater times newest time is = elim (cases_lt newest time) [
-  | inl below ↦ subst (IsGreatest (time ∷ times)) (sym (max-eq_right {newest} {time} (omega (arith, below)))) (record {
+  | inl below ↦ subst (IsGreatest (time ∷ times)) (sym (max-eq_right {n = newest} {m = time} (omega (arith, below)))) (record {
     among = (0, time, omega arith, refl, refl);
     greatest = All-cons (λ t. t ≤ time) time times (omega arith)
         (All-weaker (λ t. t ≤ newest) (λ t. t ≤ time) (λ t less. omega (arith, less, below)) times is.greatest);
   })
-  | inr above ↦ subst (IsGreatest (time ∷ times)) (sym (max-eq_left {newest} {time} (omega (arith, above)))) (record {
+  | inr above ↦ subst (IsGreatest (time ∷ times)) (sym (max-eq_left {n = newest} {m = time} (omega (arith, above)))) (record {
     among = (suc is.among.0, is.among.1, omega (arith, is.among.2), is.among.3, is.among.4);
     greatest = All-cons (λ t. t ≤ newest) time times (omega (arith, above)) is.greatest;
   })
@@ -98,9 +98,16 @@ damage_fills s t e gap bytes time before its full =
 
 -- ---- broadcasts
 
+where_some : {X : Type 0} (b : Bool) (x y : X) → (if b then Some x else None) ≡ Some y → b ≡ true
+where_some true x y is = refl
+where_some false x y is = absurd (none-some y is)
+
 pub broadcasts_planned : BroadcastsArePlanned
 unfolding is_paced
-broadcasts_planned s k m moment line one begun = go (is_paced s k m) refl begun
+broadcasts_planned s k m moment line one begun =
+    let (fit, unpaced) = and_parts (list_any (is_fit s k m) s.plan.flows.items) (not (list_any (is_unpaced s k m) s.plan.flows.items))
+    (where_some (is_paced s k m) _ one begun) in
+    paced fit (not-true (list_any (is_unpaced s k m) s.plan.flows.items) unpaced)
   where
     paced : list_any (is_fit s k m) s.plan.flows.items ≡ true → list_any (is_unpaced s k m) s.plan.flows.items ≡ false → IsPacedByThePlan s k m
     paced some none = record {
@@ -114,9 +121,3 @@ broadcasts_planned s k m moment line one begun = go (is_paced s k m) refl begun
         its n flow at fit None is =
             let unpaced : is_unpaced s k m flow ≡ true = and_from (is_fit s k m flow) (is_none flow.pace) fit (ap is_none is) in
             absurd (true≢false (sym (any_at (is_unpaced s k m) s.plan.flows.items n flow at unpaced) ∙ none))
-
-    go : (b : Bool) → is_paced s k m ≡ b → (if b then Some _ else None) ≡ Some one → IsPacedByThePlan s k m
-    go false is some = absurd (none-some one some)
-    go true is some =
-        let (fit, unpaced) = and_parts (list_any (is_fit s k m) s.plan.flows.items) (not (list_any (is_unpaced s k m) s.plan.flows.items)) is in
-        paced fit (not-true (list_any (is_unpaced s k m) s.plan.flows.items) unpaced)
