@@ -19,7 +19,7 @@ use Rattle.j39_audit.specs.Settings.{AreMoving, Settings, moves, units_planned}
 use Rattle.j39_audit.specs.declared.senders.SureSender.TheVariants.{Unit as OfUnit, Unknown}
 use Rattle.j39_audit.proofs.Below.{any_here, first_here}
 use Rattle.j39_audit_laws.specs.FoundLines.{ClaimsRightly}
-use Rattle.j39_audit_laws.specs.KnownSenders.{AloneIsTheSender, ClaimedLast, IsClaimedByOthers, IsElsewhere, IsUnheard, OthersAreUnsure}
+use Rattle.j39_audit_laws.specs.KnownSenders.{AloneIsTheSender, IsNewestClaim, IsClaimedByOthers, CannotBeThere, IsUnheard, OthersAreUnsure}
 use Rattle.j39_audit_laws.specs.KnownSenders.{RightClaimsAreByThePlan, counting_claims}
 use Rattle.j39_audit_laws.specs.OwnPart.{ClaimsAddresses, IsItsAddress}
 use Rattle.j39_audit_laws.proofs.Planned.{at_place, claims_so, its_address}
@@ -46,7 +46,7 @@ not_at (Some v) u differs = ne_eqb v u (λ same. differs (ap Some same))
 abbrev IsNotOf : ℕ → Heard → Type 0
 IsNotOf u h = h.unit ≢ Some u
 
-newest_in : (u a : ℕ) (claims : List Heard) → ClaimedLast u a claims → newest_of u claims ≡ Some a
+newest_in : (u a : ℕ) (claims : List Heard) → IsNewestClaim u a claims → newest_of u claims ≡ Some a
 unfolding newest_of
 newest_in u a claims last = subst (λ all. newest_of u all ≡ Some a) (sym last.are) (go last.later last.newest)
   where
@@ -151,15 +151,15 @@ module _ (s : Settings) (moving : AreMoving s.plan s.moving) (whole : s.part ≡
   last_is : (v : ℕ) → k.last v ≡ newest_of v (counting_claims s claims v)
   last_is v = cond-false s.part None (newest_of v (counting_claims s claims v)) whole
 
-  elsewhere : (v : ℕ) → IsElsewhere s claims v a → may_be s k v a ≡ false
+  elsewhere : (v : ℕ) → CannotBeThere s claims v a → may_be s k v a ≡ false
   unfolding may_be
   elsewhere v (inl (b, last, differs)) = ap (may_stand s v a) (last_is v ∙ newest_in v b (counting_claims s claims v) last) ∙ ne_eqb b a differs
   elsewhere v (inr (unheard, foreign)) =
       ap (may_stand s v a) (last_is v ∙ none_in v (counting_claims s claims v) unheard)
       ∙ false_from_ne_true (is_address_of s v a) (λ is. foreign (by_plan s moving v a is))
 
-  module _ (u : ℕ) (inside : u < length s.plan.units.items) (last : ClaimedLast u a (counting_claims s claims u)) (nobody : ¬ IsClaimedByOthers claims a)
-      (others : (v : ℕ) → v < length s.plan.units.items → v ≢ u → IsElsewhere s claims v a) where
+  module _ (u : ℕ) (inside : u < length s.plan.units.items) (last : IsNewestClaim u a (counting_claims s claims u)) (nobody : ¬ IsClaimedByOthers claims a)
+      (others : (v : ℕ) → v < length s.plan.units.items → v ≢ u → CannotBeThere s claims v a) where
     claimed : k.last u ≡ Some a
     claimed = last_is u ∙ newest_in u a (counting_claims s claims u) last
 

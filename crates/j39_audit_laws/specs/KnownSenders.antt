@@ -10,7 +10,7 @@ use Rattle.j39_audit_laws.specs.OwnPart.{ClaimsAddresses, IsItsAddress}
 -- ---- claims, the newest one first
 
 -- the unit's newest one is of this address
-pub record ClaimedLast (u a : ℕ) (claims : List Heard) : Type 0 where
+pub record IsNewestClaim (u a : ℕ) (claims : List Heard) : Type 0 where
   pub later : List Heard
   pub claim : Heard
   pub older : List Heard
@@ -32,9 +32,9 @@ abbrev pub IsClaimedByOthers : HeardClaims → ℕ → Type 0
 IsClaimedByOthers claims a = Any (λ (h : Heard). (h.unit ≡ None) × (h.source ≡ a)) claims.all
 
 -- the unit isn't at the address: it claimed another one last, or it is unheard and the address is none of its own
-abbrev pub IsElsewhere : Settings → HeardClaims → ℕ → ℕ → Type 0
-IsElsewhere s claims v a =
-    ((b : ℕ) × ClaimedLast v b (counting_claims s claims v) × (b ≢ a))
+abbrev pub CannotBeThere : Settings → HeardClaims → ℕ → ℕ → Type 0
+CannotBeThere s claims v a =
+    ((b : ℕ) × IsNewestClaim v b (counting_claims s claims v) × (b ≢ a))
     ⊎ (IsUnheard v (counting_claims s claims v) × (¬ IsItsAddress s.plan v a))
 
 -- ---- the laws
@@ -47,8 +47,8 @@ OthersAreUnsure = (s : Settings) (claims : HeardClaims) (a : ℕ) → is_address
 -- a unit that claimed an address last is the sender there, also where strangers come, if no other unit may be there and nobody else claimed it
 abbrev pub AloneIsTheSender : Type 0
 AloneIsTheSender = (s : Settings) → AreMoving s.plan s.moving → s.part ≡ false → (claims : HeardClaims) (u a : ℕ) → u < length s.plan.units.items
-    → ClaimedLast u a (counting_claims s claims u) → (¬ IsClaimedByOthers claims a)
-    → ((v : ℕ) → v < length s.plan.units.items → v ≢ u → IsElsewhere s claims v a)
+    → IsNewestClaim u a (counting_claims s claims u) → (¬ IsClaimedByOthers claims a)
+    → ((v : ℕ) → v < length s.plan.units.items → v ≢ u → CannotBeThere s claims v a)
     → sender_at s (knowledge s claims) a ≡ OfUnit u
 
 -- a claim isn't accused exactly where the unit claims addresses and this is one of its own by the plan
