@@ -1,5 +1,4 @@
 use Rattle.std.proofs.Common.{◌≡◌, ◌∷◌, [], Bool, true, cond, Option, Some, sym, subst}
-use Rattle.std.proofs.lemmas.Bool.{not-false}
 use Rattle.std.proofs.lemmas.Result.{IfOk-weaker}
 use Rattle.j39_audit.specs.Looking.{answer_noted, answer_of}
 use Rattle.j39_audit.specs.declared.mark.Mark.{Mark}
@@ -13,7 +12,7 @@ returns c =
     let line = c.args.line in
     let new = c.note-2.new.self in
     let m = c.in-Some.mark in
-    let answers : c.args.answers ≡ true = not-false c.args.answers c.if-not-answers.false in
+    let answers : c.args.answers ≡ true = c.if-not-answers.false in
     IfOk-weaker c.note-2.result _ _
     (λ _ second.
     let counted = subst (λ (k : Mark). Notes c.note.new.self new (record { mark = k; line = line; detail = 0 } ∷ [])) c.make_mark.ensures second in

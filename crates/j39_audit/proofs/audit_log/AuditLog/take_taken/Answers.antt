@@ -1,5 +1,5 @@
 use Rattle.std.proofs.Common.{◌≡◌, ℕ, Option, Some, sym, subst, ◌∙◌}
-use Rattle.j39_audit.specs.AuditText.{past_again, with_again}
+use Rattle.j39_audit.specs.AuditPasts.{past_again, with_again}
 use Rattle.j39_audit.specs.Claiming.{HeardClaims, with_requests}
 use Rattle.j39_audit.specs.declared.again.TakenFrame.{TakenFrame}
 use Rattle.j39_audit.specs.declared.basis.Basis.{Basis}
@@ -16,7 +16,7 @@ returns-clause-again c = λ past recalls.
     let one = c.in-Some.one in
     let at = c.in-Some-time.at in
     let heard : Basis → Option ℕ → HeardClaims = λ b t. with_requests b.plan.now t one.frame one.request past.claims in
-    let took = c.take_again.ensures.again (record past { claims = heard old.basis c.args.time }) (record {
+    let took = c.take_again.ensures.again (record past { claims = heard old.basis (Some at) }) (record {
       follows = record {
         knows = c.in_ok-take_request.ensures past.claims recalls.follows.knows;
         counted = recalls.follows.counted;
@@ -39,6 +39,5 @@ returns-clause-again c = λ past recalls.
     let taken : Some one ≡ past.taken = sym c.in-Some.is ∙ recalls.taken_is in
     subst (λ (o : Option TakenFrame). RecallsAudit new (past_again s o c.args.time past)) taken
     (subst (λ (t : Option ℕ). RecallsAudit new (past_again s (Some one) t past)) (sym c.in-Some-time.is)
-    (subst (λ (t : Option ℕ). RecallsAudit new (record (with_again s one.flow one.unit one.line at past) { claims = heard new.basis t })) c.in-Some-time.is
-    (subst (λ (b : Basis). RecallsAudit new (with_again s one.flow one.unit one.line at (record past { claims = heard b c.args.time })))
-    (sym c.take_again.ensures.basis) took)))
+    (subst (λ (b : Basis). RecallsAudit new (with_again s one.flow one.unit one.line at (record past { claims = heard b (Some at) })))
+    (sym c.take_again.ensures.basis) took))
