@@ -44,7 +44,7 @@ use Rattle.j39_audit_laws.specs.LoggedBuses.{CanBeLogged, CanPlansBeLogged, IsPl
 use Rattle.j39_audit_laws.specs.MarkRecords.{IsNextTo, IsTimeOf}
 use Rattle.j39_audit_laws.specs.OwnPart.{AreItsOwn, IsItsAddress}
 use Rattle.j39_audit_laws.specs.PauseLines.{FrameLine, time_there, IsAgainAt}
-use Rattle.j39_audit_laws.proofs.SoleSenders.{may_be_planned, sole_sender, still_none, unheard}
+use Rattle.j39_audit_laws.proofs.SoleSenders.{IsUnclaimed, may_be_planned, sole_sender, still_none, unheard}
 use Rattle.j39_audit_laws.proofs.LateSlots.{either_later, ends_in_turn, exact_clock, exact_keeps, first_ended, first_time, ident_of_flow, late_bus, late_frame}
 use Rattle.j39_audit_laws.proofs.LateSlots.{late_sent, late_slots, next_one, second_ended, second_time}
 use Rattle.j39_audit_laws.proofs.TimedLines.{IsWrittenTime, later_text, later_written, line_time_is, no_interface, not_elsewhere, only_frame, only_time}
@@ -315,7 +315,7 @@ module _ (s : Settings) (apart : ArePlannedApart (units_of s.plan)) (written tim
   second_new =
       let start : AuditPast = with_next_number nothing_read in
       let w : Sighting = sighted_behind nothing_sighted (noted_newly s start (line_time s.plan second_text) frame packet) in
-      let one : TakenFrame = record { frame = frame; time = 1000000; line = 1; flow = w.flow; unit = w.unit } in
+      let one : TakenFrame = record { frame = frame; time = 1000000; line = 1; flow = w.flow; request = w.request; unit = w.unit } in
       let taken : first_past.taken ≡ Some one = taken_with s start (line_time s.plan second_text) None frame packet
       ∙ ap (λ (o : Option ℕ). taken_frame o frame 1 w) (line_time_is s.plan written second_text 1000000 timed second_written) in
       let same : Bool = is_same_frame frame frame in
@@ -429,17 +429,21 @@ module _ (s : Settings) (apart : ArePlannedApart (units_of s.plan)) (written tim
       (carries_none frame group.priority group.pgn (goes_to (planned_address s.plan apart) flow.to) (planned_address s.plan apart flow.sender) own_number
       destination_small source_small of_flow.ident)
 
-  claims_behind_first : (next : AuditPast) → AuditsLine s nothing_read (Short first_line) next → next.claims ≡ no_claims
+  claims_behind_first : (next : AuditPast) → AuditsLine s nothing_read (Short first_line) next → IsUnclaimed next.claims
   unfolding past_with_frame is_again
   claims_behind_first next (part, named, part_is, named_is, how) = elim how [
-    | inl elsewhere ↦ ap (λ (p : AuditPast). p.claims) elsewhere.1
+    | inl elsewhere ↦ (ap (λ (p : AuditPast). p.claims.all) elsewhere.1, ap (λ (p : AuditPast). p.claims.recent) elsewhere.1)
     | inr here ↦ elim here.1 [
       | inl (f, time, spelled_f, time_is, inl (again, is_next)) ↦ absurd (true≢false (sym again))
       | inl (f, time, spelled_f, time_is, inr (new, (other, other_is, is_next))) ↦
           let same : f ≡ frame = only_frame second_text 1000000 second_written frame word spells some_word whole_word part f part_is spelled_f in
           let before : HeardClaims = claims_before s (with_next_number nothing_read) (line_time s.plan time) in
-          ap (λ (p : AuditPast). p.claims) is_next ∙ (ap (λ (b : Bool). if b then with_claim (claimant s f) before else before) (ap is_claim same ∙ no_claim)
-          ∙ still_none (breaks s.stamps None (line_time s.plan time)) no_claims refl)
+          let none : is_claim f ≡ false = ap is_claim same ∙ no_claim in
+          let unclaimed = still_none (breaks s.stamps None (line_time s.plan time)) no_claims (refl, refl) in (
+            ap (λ (p : AuditPast). p.claims.all) is_next ∙ ap (λ (b : Bool). (if b then with_claim (claimant s f) before else before).all) none ∙ unclaimed.0,
+            ap (λ (p : AuditPast). p.claims.recent) is_next ∙ ap (λ (b : Bool). (if b then with_claim (claimant s f) before else before).recent) none
+                ∙ unclaimed.1,
+          )
       | inr (e, fault, is_next) ↦
           absurd (not_both first_line frame e (spelled second_text 1000000 second_written frame word spells some_word whole_word)
           (subst (λ (l : List ℕ). HasLineFault l e) (only_part second_text 1000000 second_written frame word spells some_word whole_word part part_is) fault))
@@ -447,21 +451,25 @@ module _ (s : Settings) (apart : ArePlannedApart (units_of s.plan)) (written tim
   ]
 
   claims_there : (before : List Line) (line : List ℕ) (behind : List Line) (just : AuditPast) → log ≡ before ++ Short line ∷ behind
-      → AuditsLines s nothing_read before just → just.claims ≡ no_claims
-  claims_there [] line behind just row read = ap (λ (p : AuditPast). p.claims) read
+      → AuditsLines s nothing_read before just → IsUnclaimed just.claims
+  claims_there [] line behind just row read = (ap (λ (p : AuditPast). p.claims.all) read, ap (λ (p : AuditPast). p.claims.recent) read)
   claims_there (x ∷ []) line behind just row read =
       let same : x ≡ Short first_line = cc in
-      ap (λ (p : AuditPast). p.claims) read.2
-      ∙ claims_behind_first read.0 (subst (λ (l : Line). AuditsLine s nothing_read l read.0) same read.1)
+      let first = claims_behind_first read.0 (subst (λ (l : Line). AuditsLine s nothing_read l read.0) same read.1) in
+      (ap (λ (p : AuditPast). p.claims.all) read.2 ∙ first.0, ap (λ (p : AuditPast). p.claims.recent) read.2 ∙ first.1)
   claims_there (x ∷ y ∷ before) line behind just row read =
       let long : 2 ≡ length (x ∷ y ∷ before ++ Short line ∷ behind) = ap length row in
       let parts : length (before ++ Short line ∷ behind) ≡ length before + suc (length behind) = length-append before (Short line ∷ behind) in
       absurd (omega (arith, long, parts))
 
-  claims_at : {number : ℕ} {claims : HeardClaims} {f : Frame} {packet : Option Packet} → IsFrameAt s log number claims f packet → claims ≡ no_claims
+  claims_at : {number : ℕ} {claims : HeardClaims} {f : Frame} {packet : Option Packet} → IsFrameAt s log number claims f packet → IsUnclaimed claims
   claims_at at =
-      at.claims_are ∙ still_none (breaks s.stamps at.past.newest (line_time s.plan at.time)) at.past.claims
-      (ap (λ (p : AuditPast). p.claims) at.line_is.past_is ∙ claims_there at.line_is.before at.line at.line_is.behind at.line_is.just at.line_is.row at.line_is.read)
+      let there = claims_there at.line_is.before at.line at.line_is.behind at.line_is.just at.line_is.row at.line_is.read in
+      let unclaimed = still_none (breaks s.stamps at.past.newest (line_time s.plan at.time)) at.past.claims (
+        ap (λ (p : AuditPast). p.claims.all) at.line_is.past_is ∙ there.0,
+        ap (λ (p : AuditPast). p.claims.recent) at.line_is.past_is ∙ there.1,
+      ) in
+      (ap (λ (c : HeardClaims). c.all) at.claims_are ∙ unclaimed.0, ap (λ (c : HeardClaims). c.recent) at.claims_are ∙ unclaimed.1)
 
   its_own : (u : ℕ) → AreItsOwn s log (λ number. wire.unit (place number)) u
   its_own u = record {

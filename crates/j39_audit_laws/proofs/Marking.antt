@@ -1,5 +1,5 @@
 -- What is noted at a frame is what the frame is marked with, and each mark that accuses is noted once at most.
-use Rattle.std.proofs.Common.{◌≡◌, ℕ, zero, suc, ◌==◌, ◌||◌, ◌∷◌, [], List, Bool, true, false, not, if◌then◌else◌}
+use Rattle.std.proofs.Common.{◌≡◌, ℕ, zero, suc, ◌==◌, ◌||◌, ◌++◌, ◌∷◌, [], List, Bool, true, false, not, if◌then◌else◌}
 use Rattle.std.proofs.Common.{inl, inr, refl, sym, ap, ◌∙◌, subst, length, Option, Some, None}
 use Rattle.std.specs.Prelude.{count_by}
 use Rattle.std.specs.List.{list_all, list_any, position, slice_get}
@@ -25,7 +25,7 @@ use Rattle.j39_audit.specs.declared.mark.Word.TheVariants.{Short, Stranger, Nobo
 use Rattle.j39_audit.specs.declared.mark.Word.TheVariants.{Unclear, Asked, Counted, Unsure, Break, NearFlow, NearRequest, SilentFlow, Deaf, NearPackets}
 use Rattle.j39_audit.specs.declared.mark.Word.TheVariants.{SilentPackets, NearOrLate, SilentOrLate, Answered, Answers, Besides}
 use Rattle.j39_audit_laws.specs.FoundLines.{IsAccusing}
-use Rattle.j39_audit_laws.proofs.Hits.{HaveWords, In, words_below}
+use Rattle.j39_audit_laws.proofs.Hits.{HaveWords, In, words_below, words_both, words_if}
 
 -- ---- words
 
@@ -212,7 +212,7 @@ asked_seen s k m line =
   where
     of_mark : (o : Option Mark) → HaveWords is_seen (answer_of line o)
     of_mark None = tt
-    of_mark (Some d) = (refl, refl, tt)
+    of_mark (Some d) = (refl, (refl, tt))
 
 pub all_seen_of : (s : Settings) (k : Knowledge) (m : SentMessage) (line : ℕ) → HaveWords is_seen (flows_noted s k m line ++ asked_noted s k m line)
 all_seen_of s k m line = words_both is_seen (flows_noted s k m line) (asked_noted s k m line) (flows_seen s k m line) (asked_seen s k m line)

@@ -1,5 +1,5 @@
 -- Who keeps its own part isn't accused.
-use Rattle.std.proofs.Common.{◌≡◌, ◌≢◌, ℕ, zero, suc, ◌<◌, ◌==◌, ◌&&◌, ◌||◌, ◌++◌, ◌∷◌, [], List, true, not, length}
+use Rattle.std.proofs.Common.{◌≡◌, ◌≢◌, ◌⊎◌, ℕ, zero, suc, ◌<◌, ◌==◌, ◌&&◌, ◌||◌, ◌++◌, ◌∷◌, [], List, true, not, length}
 use Rattle.std.proofs.Common.{inl, inr, refl, sym, ap, ◌∙◌, subst, arith, eqb-true, Option, Some}
 use Rattle.std.specs.Prelude.{Contains, nat_lt, nat_le, false, Bool, None}
 use Rattle.std.specs.Option.{is_some}
@@ -18,8 +18,8 @@ use Rattle.j39_audit.specs.AuditText.{Look, groups_named, line_of_mark, line_rep
 use Rattle.j39_audit.specs.Below.{each_below}
 use Rattle.j39_audit.specs.Claiming.{HeardClaims, Knowledge, knowledge, was_asked_for}
 use Rattle.j39_audit.specs.Looking.{is_above_unplanned, is_claim, is_of_own_group, is_of_transport, is_single, is_urgent, may_be_transport, single, told}
-use Rattle.j39_audit.specs.Looking.{answers_request, is_answer}
-use Rattle.j39_audit.specs.SentMessages.{first_group}
+use Rattle.j39_audit.specs.Looking.{answers_request, is_answer, message_sent}
+use Rattle.j39_audit.specs.SentMessages.{SentMessage, deviation, first_group}
 use Rattle.j39_audit.specs.Settings.{AreMoving, Settings}
 use Rattle.j39_audit.specs.declared.mark.Mark.{Mark}
 use Rattle.j39_audit.specs.declared.mark.Word.{Word}

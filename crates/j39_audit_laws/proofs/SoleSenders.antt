@@ -1,28 +1,31 @@
 -- Who is the sender for sure, where no claim was heard: nobody but a unit that is planned at the address.
-use Rattle.std.proofs.Common.{◌≡◌, ℕ, ◌<◌, ◌==◌, ◌&&◌, ◌||◌, Bool, true, false, not, if◌then◌else◌, [], Option, Some, None, refl, sym, ap, ◌∙◌, inl, inr}
+use Rattle.std.proofs.Common.{◌≡◌, ℕ, ◌<◌, ◌==◌, ◌&&◌, ◌||◌, Bool, true, false, not, if◌then◌else◌, List, [], Option, Some, None, refl, sym, ap, ◌∙◌, inl, inr}
 use Rattle.std.proofs.Common.{eqb-true}
 use Rattle.std.proofs.lemmas.Bool.{and_from, cases_Bool, eq-eqb, or_left, true≢false}
 use Rattle.std.specs.List.{slice_get}
 use Rattle.std.specs.Option.{option_map_or}
 use Rattle.j39_network.specs.declared.plan.unit_plan.UnitPlan.{UnitPlan}
-use Rattle.j39_audit.specs.Claiming.{HeardClaims, Knowledge, broken_off, first_there, has_strangers, is_address_of, is_another_there, is_free_for, is_strange}
-use Rattle.j39_audit.specs.Claiming.{knowledge, may_be, may_stand, newest_of, no_claims, sender_at, sure_sender}
+use Rattle.j39_audit.specs.Claiming.{Heard, HeardClaims, Knowledge, broken_off, first_there, has_strangers, is_address_of, is_another_there, is_free_for, is_strange}
+use Rattle.j39_audit.specs.Claiming.{knowledge, may_be, may_stand, newest_of, sender_at, sure_sender}
 use Rattle.j39_audit.specs.Settings.{Settings, moves, units_planned}
 use Rattle.j39_audit.specs.declared.senders.SureSender.TheVariants.{Unit as OfUnit, Nobody, Unknown}
 use Rattle.j39_audit.proofs.Below.{any_here}
 
 -- ---- no claims
 
-pub still_none : (b : Bool) (claims : HeardClaims) → claims ≡ no_claims → broken_off b claims ≡ no_claims
-still_none b claims none = ap (broken_off b) none ∙ go b
-  where
-    go : (b : Bool) → broken_off b no_claims ≡ no_claims
-    go true = refl
-    go false = refl
+-- nobody has claimed anything
+abbrev pub IsUnclaimed : HeardClaims → Type 0
+IsUnclaimed claims = (claims.all ≡ []) × (claims.recent ≡ [])
 
-pub unheard : (s : Settings) (claims : HeardClaims) (u : ℕ) → claims ≡ no_claims → (knowledge s claims).last u ≡ None
+pub still_none : (b : Bool) (claims : HeardClaims) → IsUnclaimed claims → IsUnclaimed (broken_off b claims)
+still_none true claims none = (none.0, refl)
+still_none false claims none = none
+
+pub unheard : (s : Settings) (claims : HeardClaims) (u : ℕ) → IsUnclaimed claims → (knowledge s claims).last u ≡ None
 unfolding newest_of
-unheard s claims u none = ap (λ (c : HeardClaims). (knowledge s c).last u) none ∙ go s.part (moves s u)
+unheard s claims u none =
+    ap (λ (l : List Heard). if s.part then None else newest_of u (if moves s u then claims.recent else l)) none.0
+    ∙ ap (λ (l : List Heard). if s.part then None else newest_of u (if moves s u then l else [])) none.1 ∙ go s.part (moves s u)
   where
     go : (part moving : Bool) → (if part then None else newest_of u (if moving then [] else [])) ≡ None
     go true moving = refl

@@ -64,7 +64,7 @@ module _ (s : Settings) (k : Knowledge) (f : Frame) (packet : Option Packet) (li
     where
       of_mark : (o : Option Mark) → AreSure (answer_of line o)
       of_mark None = tt
-      of_mark (Some d) = (refl, refl, tt)
+      of_mark (Some d) = (refl, (refl, tt))
 
   mark_sure : (m : SentMessage) (o : Option Mark) → IsDeviation m o → AreSure (mark_noted line o)
   mark_sure m None so = tt
