@@ -1,5 +1,6 @@
 //! What an audit goes by.
 ghost use Rattle.std.specs.Prelude.{◌≡◌, ◌≢◌, ◌<◌, ◌&&◌, ℕ, true, false, not, All, IfOk, length, slice_index_or};
+ghost use Rattle.std.proofs.Props.{props};
 ghost use Rattle.j39_findings.specs.Standing.{stays_of};
 ghost use Rattle.j39_id.specs.Name.{is_arbitrary};
 ghost use Rattle.j39_audit.specs.QueueTimes.{AreQueueTimes};
@@ -29,7 +30,7 @@ pub(crate) struct Basis<'a> {
     pub bound: Bound,
     pub ghost sent_so: { AreSent plan.now sent.now },
     pub ghost queued_so: { AreQueueTimes plan.now queue_times.now },
-    pub ghost few_us: { All IsResponse responses.now },
+    pub ghost few_us: { All IsResponse responses.now } by { Prim.hlevel props },
 }
 
 // Whether a unit may choose an address, and doesn't stay at the planned one.
