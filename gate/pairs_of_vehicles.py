@@ -9,8 +9,8 @@ from turned import Pair, Turn
 
 EXACT = "laws::vehicle_findings_are_exact"
 EXACT_TIMES = "laws::time_findings_are_exact"
-AGES = "laws::ages_are_bounds"
-ROOM = "laws::direct_forwards_have_room"
+AGES = "times::ages_are_bounds"
+ROOM = "times::direct_forwards_have_room"
 
 
 def in_findings(name: str, function: str, turns: tuple[Turn, ...]) -> Pair:
@@ -19,7 +19,7 @@ def in_findings(name: str, function: str, turns: tuple[Turn, ...]) -> Pair:
 
 
 def in_times(name: str, functions: tuple[str, ...], law: str, turns: tuple[Turn, ...]) -> Pair:
-    return Pair(name, "j39_vehicle_times", functions, "j39_vehicle_time_laws", law, turns)
+    return Pair(name, "j39_vehicle_times", functions, "j39_vehicle_laws", law, turns)
 
 
 PAIRS = (

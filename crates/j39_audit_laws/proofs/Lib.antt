@@ -9,9 +9,11 @@ pub mod InTurn
 pub mod JudgedFlows
 pub mod KeptParts
 pub mod KeptPauses
+pub mod KnownSenders
 pub mod LateSlots
 pub mod Lines
 pub mod Listed
+pub mod LogTimes
 pub mod LoggedBus
 pub mod Marking
 pub mod Near

@@ -34,12 +34,12 @@ use Rattle.j39_audit_laws.specs.OwnPart.{ClaimsAddresses, GoesAsPlanned, IsItsAd
 
 -- ---- lists
 
-any_at : {X : Type 0} (test : X → Bool) (xs : List X) (n : ℕ) (x : X) → slice_get xs n ≡ Some x → test x ≡ true → list_any test xs ≡ true
+pub any_at : {X : Type 0} (test : X → Bool) (xs : List X) (n : ℕ) (x : X) → slice_get xs n ≡ Some x → test x ≡ true → list_any test xs ≡ true
 any_at {X} test [] n x at is = absurd (none-some x at)
 any_at {X} test (y ∷ xs) zero x at is = or_left (test y) (list_any test xs) (ap test (same_Some y x at) ∙ is)
 any_at {X} test (y ∷ xs) (suc n) x at is = or_right (test y) (list_any test xs) (any_at test xs n x at is)
 
-any_found : {X : Type 0} (test : X → Bool) (xs : List X) → list_any test xs ≡ true → (n : ℕ) × (x : X) × (slice_get xs n ≡ Some x) × (test x ≡ true)
+pub any_found : {X : Type 0} (test : X → Bool) (xs : List X) → list_any test xs ≡ true → (n : ℕ) × (x : X) × (slice_get xs n ≡ Some x) × (test x ≡ true)
 any_found {X} test [] is = absurd (true≢false (sym is))
 any_found {X} test (y ∷ xs) is = elim (or_cases (test y) (list_any test xs) is) [
   | inl here ↦ (0, y, refl, here)

@@ -9,7 +9,9 @@ pub mod JudgedFlows
 pub mod KeptLogs
 pub mod KeptParts
 pub mod KeptStreams
+pub mod KnownSenders
 pub mod LogBounds
+pub mod LogTimes
 pub mod LoggedBuses
 pub mod MarkRecords
 pub mod OneAudit

@@ -2,6 +2,7 @@
 #![tactic(auto)]
 
 mod laws;
+mod log_laws;
 mod plan_laws;
 mod witnesses;
 
@@ -17,6 +18,10 @@ pub use laws::{
     who_keeps_a_step_is_not_near, who_keeps_its_part_is_not_accused,
     who_sends_by_the_plan_is_not_accused, who_sends_in_turn_is_not_silent,
     whole_logs_of_kept_periods_are_not_near, whole_logs_of_kept_plans_are_not_near,
+};
+pub use log_laws::{
+    breaks_are_by_numbers, full_buses_show_no_idle_bit, judged_broadcasts_are_planned,
+    right_claims_are_by_the_plan, senders_are_known_by_claims,
 };
 pub use plan_laws::{silence_is_told_of_flows_that_show_it, timed_flows_are_judged_by_load};
 pub use witnesses::a_whole_log_can_be_kept;

@@ -2,7 +2,7 @@
 use Rattle.std.proofs.Common.{◌≡◌, ℕ, ◌+◌, ◌≤◌, cond, ltb, List, length, refl, ap, ◌∙◌, arith, inl, inr, Option, None}
 use Rattle.std.proofs.lemmas.List.{get_or_past}
 use Rattle.std.proofs.lemmas.Bool.{cases_eq, cases_lt, eq-eqb, ne_eqb, lt-ltb, le-ltb}
-use Rattle.j39_queues.proofs.Columns.{next_place}
+use Rattle.j39_bus.proofs.Columns.{next_place}
 use Rattle.j39_bus.specs.BusState.{session_at}
 use Rattle.j39_world.specs.SwitchingOff.{session_without, sessions_without}
 use Rattle.j39_world.specs.Transfers.{Outgoing, Sessions}

@@ -25,3 +25,6 @@ pub mod HeardPackets
 pub mod Wires
 pub mod ChangedReceivers
 pub mod Begun
+pub mod Tables
+pub mod Rows
+pub mod Columns

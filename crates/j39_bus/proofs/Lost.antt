@@ -2,7 +2,7 @@
 use Rattle.std.proofs.Common.{◌≡◌, ◌<◌, ℕ, arith, List, [], ◌∷◌, refl, length, drop, sym, subst}
 use Rattle.j39_bus.specs.declared.network.Network.{Network}
 use Rattle.j39_world.specs.declared.wired.Wired.{Wired}
-use Rattle.j39_queues.specs.Queued.{Queued, pair_in}
+use Rattle.j39_bus.specs.Queued.{Queued, pair_in}
 use Rattle.j39_bus.specs.BusState.{Histories}
 use Rattle.j39_bus.specs.inside.Network.{world_in}
 use Rattle.j39_world.specs.TransferSteps.{LostFrom}

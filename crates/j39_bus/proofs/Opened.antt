@@ -23,7 +23,7 @@ use Rattle.j39_bus.specs.Stations.{unstarted, station_at}
 use Rattle.j39_bus.specs.inside.Network.{IsWellFormed, planned_units}
 use Rattle.j39_bus.specs.inside.KeptMessages.{AreSessions}
 use Rattle.j39_bus.proofs.ChangedSessions.{none_some}
-use Rattle.j39_queues.specs.Queued.{IsTable}
+use Rattle.j39_bus.specs.Queued.{IsTable}
 
 pub station_unstarted : (kept : FinSet nat_cmp) (units : List UnitPlan) (u : ℕ) → station_at (map (unstarted kept) units) u ≡ off
 station_unstarted kept [] u = refl

@@ -3,7 +3,7 @@ use Rattle.std.proofs.Common.{◌≡◌, ℕ, zero, suc, ◌+◌, ◌<◌, ◌�
 use Rattle.std.proofs.lemmas.Bool.{and_parts, cases_eq, cases_lt}
 use Rattle.std.proofs.lemmas.List.{get_or_past}
 use Rattle.std.specs.List.{list_all, range_with_len}
-use Rattle.j39_queues.specs.Queued.{IsTable, pair_in}
+use Rattle.j39_bus.specs.Queued.{IsTable, pair_in}
 
 pub none_outside : {X : Type 0} (n : ℕ) (lists : List (List (List X))) → IsTable n lists → (u v : ℕ) → (n ≤ u) ⊎ (n ≤ v) → pair_in lists u v ≡ []
 none_outside {X} n lists table u v out = elim (cases_lt u n) [

@@ -1,7 +1,7 @@
 -- An item joins the lists from a unit to each that passes a test, one after another, where there is room for it.
 use Rattle.std.proofs.Common.{◌≡◌, ◌≢◌, ℕ, ◌+◌, ◌≤◌, Bool, true, false, cond, ◌&&◌, eqb, ltb, List, [], ◌∷◌, ◌++◌, refl, sym, ap, ◌∙◌, arith, inl, inr}
 use Rattle.std.proofs.lemmas.Bool.{cases_eq, cases_lt, eq-eqb, ne_eqb, lt-ltb, le-ltb}
-use Rattle.j39_queues.specs.Queued.{Queued, changed_in, one_at, room_at}
+use Rattle.j39_bus.specs.Queued.{Queued, changed_in, one_at, room_at}
 
 -- a place below the next one
 next_place : (v k : ℕ) → v ≢ k → ltb v (k + 1) ≡ ltb v k

@@ -7,8 +7,8 @@ use Rattle.std.proofs.Math.Path.{transport}
 use Rattle.std.proofs.Math.Seq.{map-set_same}
 use Rattle.std.proofs.lemmas.Bool.{and_parts, cases_Bool, eqb-true}
 use Rattle.std.specs.Vec.{with_item}
-use Rattle.j39_queues.specs.Queued.{IsTable}
-use Rattle.j39_queues.proofs.Tables.{cell_is, row_is, tabled_set, with_cell_at, with_cell_columns}
+use Rattle.j39_bus.specs.Queued.{IsTable}
+use Rattle.j39_bus.proofs.Tables.{cell_is, row_is, tabled_set, with_cell_at, with_cell_columns}
 use Rattle.j39_world.specs.Flows.{window_at}
 use Rattle.j39_world.specs.World.{changed_pair}
 use Rattle.j39_bus.specs.BusState.{Holding, ReceiverTable, closed, holding_at}

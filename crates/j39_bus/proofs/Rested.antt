@@ -6,7 +6,7 @@ use Rattle.std.proofs.lemmas.List.{length-map}
 use Rattle.j39_claim.specs.ClaimerValue.{ClaimerValue}
 use Rattle.j39_network.specs.declared.plan.Plan.{Plan}
 use Rattle.j39_network.specs.PlannedUnits.{planned_unit}
-use Rattle.j39_queues.specs.Queued.{pair_in}
+use Rattle.j39_bus.specs.Queued.{pair_in}
 use Rattle.j39_world.specs.Run.{count_of, is_a_transfer_open, is_none_sending, is_nothing_undelivered}
 use Rattle.std.specs.List.{list_all, list_any, range_with_len}
 use Rattle.j39_bus.specs.declared.network.Network.{Network}

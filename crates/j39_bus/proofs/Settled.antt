@@ -6,7 +6,7 @@ use Rattle.j39_claim.specs.declared.item.Say.{Say}
 use Rattle.j39_claim.specs.declared.item.Say.TheVariants.{Claim, Cannot}
 use Rattle.j39_claim.specs.declared.item.Item.{Item}
 use Rattle.j39_claim.specs.declared.item.Item.TheVariants.{AddressClaimed, Request}
-use Rattle.j39_queues.specs.Queued.{IsTable, pair_in}
+use Rattle.j39_bus.specs.Queued.{IsTable, pair_in}
 use Rattle.j39_world.specs.Sound.{IsQuiet}
 use Rattle.j39_bus.specs.inside.Claims.{are_requests, is_request}
 use Rattle.j39_bus.proofs.Outside.{each_list}

@@ -1,7 +1,7 @@
 -- The message of a unit is at another stage, and what it then sends goes to those that it goes to.
 use Rattle.std.proofs.Common.{◌≡◌, ℕ, List, length, sym, ap, ◌∙◌, subst, Option, Some}
 use Rattle.std.specs.Option.{option_and_then}
-use Rattle.j39_queues.specs.Queued.{Queued}
+use Rattle.j39_bus.specs.Queued.{Queued}
 use Rattle.j39_tp.specs.declared.packet.Packet.{Packet}
 use Rattle.j39_tp.specs.declared.sending.stage.Stage.{Stage}
 use Rattle.j39_world.specs.declared.flow.Flow.{Flow}

@@ -5,7 +5,7 @@ use Rattle.std.proofs.Math.Path.{transport}
 use Rattle.j39_network.specs.declared.plan.Plan.{Plan}
 use Rattle.j39_network.specs.declared.steps.Step.{Step}
 use Rattle.j39_bus.specs.declared.network.Network.{Network}
-use Rattle.j39_queues.specs.Queued.{IsTable, pair_in}
+use Rattle.j39_bus.specs.Queued.{IsTable, pair_in}
 use Rattle.j39_world.specs.declared.flow.Flow.{Flow}
 use Rattle.j39_world.specs.Transfers.{Outgoing}
 use Rattle.j39_world.specs.declared.wired.Wired.{Wired}

@@ -13,7 +13,7 @@ use Rattle.j39_claim.specs.ClaimerValue.{ClaimerValue}
 use Rattle.j39_bus.specs.Stations.{absent_unit, station_at}
 use Rattle.j39_world.specs.World.{changed, is_other_on}
 use Rattle.j39_bus.specs.inside.Network.{has_unit_named, IsWellFormed, HasAnswered}
-use Rattle.j39_queues.specs.Queued.{IsTable}
+use Rattle.j39_bus.specs.Queued.{IsTable}
 use Rattle.j39_bus.proofs.Room.{named-set, noted_then}
 use Rattle.std.proofs.lemmas.List.{get_or_past}
 use Rattle.j39_bus.proofs.Worlds.{any_default, station_set}

@@ -7,7 +7,7 @@ use Rattle.std.specs.List.{filter, range_with_len}
 use Rattle.j39_tp.specs.declared.packet.Packet.{Packet}
 use Rattle.j39_world.specs.declared.wired.Wired.{Wired}
 use Rattle.j39_world.specs.declared.wired.Wired.TheVariants as wired
-use Rattle.j39_queues.specs.Queued.{IsTable, Queued, changed_in, one_at, room_at}
+use Rattle.j39_bus.specs.Queued.{IsTable, Queued, changed_in, one_at, room_at}
 use Rattle.j39_world.specs.Sent.{Sent}
 use Rattle.j39_world.specs.SentTransfers.{address_of, packet_frame}
 use Rattle.j39_bus.specs.inside.KeptMessages.{AreUnits, HasRoomAlong, HasRoomTo, GoesToUnits, at_stage}

@@ -3,3 +3,4 @@ pub mod BusState
 pub mod Reports
 pub mod Stands
 pub mod inside
+pub mod Queued

@@ -5,3 +5,5 @@ pub mod Content
 pub mod Receivers
 pub mod KeptMessages
 pub mod Network
+-- What only proofs need.
+pub mod Rows

@@ -1,13 +1,13 @@
 //! What is undelivered of claims and requests.
 ghost use Rattle.std.specs.Prelude.{◌≡◌, ◌+◌, ◌<◌, ℕ, ◌≤◌, [], ◌∷◌, ◌++◌, length, OnOk};
 ghost use Rattle.std.specs.List.{list_all, range_with_len};
-ghost use Rattle.j39_queues.specs.Queued.{IsTable, changed_in, one_at, pair_in, room_at};
+ghost use Rattle.j39_bus.specs.Queued.{IsTable, changed_in, one_at, pair_in, room_at};
 ghost use Rattle.j39_world.specs.ClaimSteps.{sent_to_others};
 ghost use Rattle.j39_bus.specs.Stations.{station_at};
 ghost use Rattle.j39_bus.specs.inside.Claims.{HasRoomForOthers, are_requests};
 
+use crate::queues::Queues;
 use j39_claim::{Claimer, Item};
-use j39_queues::Queues;
 use std::alloc::AllocError;
 use std::collections::VecDeque;
 

@@ -1,4 +1,4 @@
-//! A simulated bus of a planned network.
+//! A simulated bus of a planned network: its units, the frames between each two of them, and its steps.
 #![tactic(auto)]
 
 mod bus;
@@ -10,6 +10,7 @@ mod hearing;
 mod network;
 mod opening;
 mod places;
+mod queues;
 mod receivers;
 mod refusing;
 mod report;

@@ -1,17 +1,17 @@
 //! What the units are, what they send one another, and the frames that they sent.
 ghost use Rattle.std.specs.Prelude.{◌≡◌, ℕ, ◌<◌, ◌≤◌, ◌+◌, [], ◌∷◌, length, vec_len, vec_capacity, OnOk};
-ghost use Rattle.j39_queues.specs.Queued.{IsTable};
+ghost use Rattle.j39_bus.specs.Queued.{IsTable};
 ghost use Rattle.j39_world.specs.ClaimSteps.{send_to_others};
 ghost use Rattle.j39_bus.specs.inside.Claims.{HasRoomForOthers};
 
 use crate::claim_frames::frame_of;
 use crate::claims::{post_to_others, reserve_for_others};
+use crate::queues::Queues;
 use crate::receivers::Receivers;
 use crate::report::Report;
 use crate::session::Session;
 use j39_claim::{Claimer, Item};
 use j39_id::Frame;
-use j39_queues::Queues;
 use j39_world::{Flow, Wired};
 use std::alloc::AllocError;
 

@@ -13,11 +13,11 @@ ghost use Rattle.j39_network.specs.PlannedGroups.{IsSendable};
 use crate::flows::flows_of;
 use crate::network::Network;
 use crate::places::empty_places;
+use crate::queues::Queues;
 use crate::receivers::Receivers;
 use crate::{Bus, BusError};
 use j39_claim::{AddressSet, Choose, Claimer};
 use j39_network::{GroupFault, GroupPlan, Plan, UnitPlan, layout_of, may_be_one};
-use j39_queues::Queues;
 use std::alloc::{AllocError, Global};
 
 /// The least place after the first whose unit may be the first's.

@@ -10,7 +10,7 @@ ghost use Rattle.j39_id.specs.FirstFault.{first_fault};
 ghost use Rattle.j39_world.specs.Run.{at_ends, begin_refusal, has_address, is_a_transfer_open, is_nothing_undelivered};
 ghost use Rattle.j39_world.specs.Run.{is_on, pair_refusals, send_refusal, unit_refusals};
 ghost use Rattle.j39_bus.specs.inside.KeptMessages.{IsFlow};
-ghost use Rattle.j39_queues.specs.Queued.{pair_in};
+ghost use Rattle.j39_bus.specs.Queued.{pair_in};
 
 use crate::network::Network;
 use crate::{StepError, sessions};

@@ -5,7 +5,7 @@ ghost use Rattle.j39_bus.specs.Stations.{station_at};
 ghost use Rattle.j39_bus.specs.inside.Network.{IsNetwork, IsSameNetwork, KeepsPlan, world_in};
 ghost use Rattle.j39_world.specs.SentTransfers.{address_of, destination_of};
 ghost use Rattle.j39_bus.specs.inside.KeptMessages.{HasRoomAlong, GoesToUnits};
-ghost use Rattle.j39_queues.specs.Queued.{room_at};
+ghost use Rattle.j39_bus.specs.Queued.{room_at};
 ghost use Rattle.j39_world.specs.Transfers.{Outgoing};
 ghost use Rattle.j39_world.specs.TransferSteps.{packets_in, replied, sent_to_receivers};
 

@@ -1,12 +1,12 @@
 //! What is on the wire between units: what one sent of a message and another has not taken yet.
 ghost use Rattle.std.specs.Prelude.{◌≡◌, ◌<◌, [], ◌∷◌, drop, not, length, IfNone, IfSome, OnOk};
 ghost use Rattle.std.specs.List.{list_all};
-ghost use Rattle.j39_queues.specs.Queued.{IsTable, pair_in};
+ghost use Rattle.j39_bus.specs.Queued.{IsTable, pair_in};
 ghost use Rattle.j39_world.specs.Resting.{is_of_sender, is_of_receiver};
 ghost use Rattle.j39_bus.specs.inside.KeptMessages.{AreUnits, HasRoomTo};
 ghost use Rattle.j39_world.specs.Transfers.{added};
 
-use j39_queues::Queues;
+use crate::queues::Queues;
 use j39_tp::Packet;
 use j39_world::Wired;
 use std::alloc::AllocError;

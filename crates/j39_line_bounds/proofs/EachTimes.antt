@@ -18,8 +18,8 @@ use Rattle.j39_network.specs.declared.plan.Plan.{Plan}
 use Rattle.j39_network.specs.declared.plan.timing.Timing.{Timing}
 use Rattle.j39_variants.specs.VariantPlans.{IsVariantPlan}
 use Rattle.j39_variants.specs.declared.line.ProductLine.{ProductLine}
-use Rattle.j39_line_findings.specs.There.{IsWhatIsThere}
-use Rattle.j39_line_findings.specs.declared.there.WhatIsThere.{WhatIsThere}
+use Rattle.j39_line_findings.specs.There.{IsPresent}
+use Rattle.j39_line_findings.specs.declared.there.Present.{Present}
 use Rattle.j39_line_findings.specs.AllVariants.{IsOneOf}
 use Rattle.j39_line_bounds.specs.LineTimes.{AreTimesAmong, AreVariantTimes, AreWorst, BoundEachOf, IsOfSomeVariant, IsTimesAmong, TimesBoundThese, time_of_flow}
 use Rattle.j39_line_bounds.specs.LineTimes.{flow_time, time_of_need, need_time}
@@ -29,8 +29,8 @@ use Rattle.j39_line_bounds.specs.declared.times.NeedTime.TheVariants as need
 
 -- ---- of one variant
 
-pub reported_of : (line : ProductLine) (v : List ℕ) (there : WhatIsThere) (plan : Plan) (timing : Timing) (answer : LoadAnswer) (reported : Times)
-    → IsWhatIsThere line v there → IsVariantPlan line v plan → timing_of plan ≡ Some timing → IsLoadAnswer plan timing answer
+pub reported_of : (line : ProductLine) (v : List ℕ) (there : Present) (plan : Plan) (timing : Timing) (answer : LoadAnswer) (reported : Times)
+    → IsPresent line v there → IsVariantPlan line v plan → timing_of plan ≡ Some timing → IsLoadAnswer plan timing answer
     → reported.flows.items ≡ map (flow_time there.flows.items answer.delays.items) (range_with_len 0 (length line.plan.flows.items))
     → reported.needs.items ≡ map (need_time line v there plan timing answer.delays.items) (range_with_len 0 (length line.plan.needs.items))
     → reported.load ≡ total_load answer.loads.timing (asked_in answer.loads) → AreVariantTimes line v reported

@@ -18,8 +18,8 @@ use Rattle.j39_variants.specs.VariantPlans.{IsVariantPlan}
 use Rattle.j39_variants.specs.declared.line.ProductLine.{ProductLine}
 use Rattle.j39_line_findings.specs.AllVariants.{IsOneOf}
 use Rattle.j39_line_findings.specs.MissedNeeds.{is_need_asked_for}
-use Rattle.j39_line_findings.specs.There.{IsWhatIsThere, place_in_file}
-use Rattle.j39_line_findings.specs.declared.there.WhatIsThere.{WhatIsThere}
+use Rattle.j39_line_findings.specs.There.{IsPresent, place_in_file}
+use Rattle.j39_line_findings.specs.declared.there.Present.{Present}
 use Rattle.j39_line_bounds.specs.declared.times.Badness.{Badness}
 use Rattle.j39_line_bounds.specs.declared.times.FlowTime.{FlowTime}
 use Rattle.j39_line_bounds.specs.declared.times.FlowTime.TheVariants as flow
@@ -90,15 +90,15 @@ age_here flows plan timing delays needed =
     else need.Age (least_age timing plan.requests.items plan.flows.items delays needed) (youngest_here flows plan timing delays needed)
 
 -- of a need of the file: this, where the variant asks for it and what it is for is there
-abbrev pub need_time : ProductLine → List ℕ → WhatIsThere → Plan → Timing → List (Option Delay) → ℕ → NeedTime
+abbrev pub need_time : ProductLine → List ℕ → Present → Plan → Timing → List (Option Delay) → ℕ → NeedTime
 need_time line variant there plan timing delays d = if is_need_asked_for line variant d
     then option_map_or (age_here there.flows.items plan timing delays) (option_and_then (slice_get plan.needs.items) (place_in_variant there.needs.items d)) need.NoVariant
     else need.NoVariant
 
 -- what is reported of a variant, of each flow and need of the file, in order
 pub record AreVariantTimes (line : ProductLine) (variant : List ℕ) (times : LineTimes) : Type 0 where
-  pub there : WhatIsThere
-  pub is_there : IsWhatIsThere line variant there
+  pub there : Present
+  pub is_there : IsPresent line variant there
   pub plan : Plan
   pub is_plan : IsVariantPlan line variant plan
   pub timing : Timing

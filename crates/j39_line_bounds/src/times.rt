@@ -14,7 +14,7 @@ ghost use Rattle.j39_line_bounds.specs.LineTimes.{flow_time};
 ghost use Rattle.j39_line_bounds.specs.LineTimes.{is_less_bad, need_badness, need_time, place_in_variant};
 ghost use Rattle.j39_line_bounds.specs.LineTimes.{time_reported};
 
-use j39_line_findings::{VariantAnswer, WhatIsThere, is_need_asked_for, place_in_file};
+use j39_line_findings::{Present, VariantAnswer, is_need_asked_for, place_in_file};
 use j39_load::{Delay, LoadAnswer, WholeTime, has_several, least_age, youngest_flow};
 use j39_network::{NeedPlan, Plan, Timing, is_met};
 use j39_variants::ProductLine;
@@ -166,7 +166,7 @@ fn flow_time(there: &[usize], delays: &[Option<Delay>], flow: usize) -> FlowTime
 struct VariantLoad<'a> {
     line: &'a ProductLine,
     variant: &'a [usize],
-    there: &'a WhatIsThere,
+    there: &'a Present,
     plan: &'a Plan,
     timing: Timing,
     delays: &'a [Option<Delay>],

@@ -16,9 +16,9 @@ use Rattle.j39_line_findings.specs.declared.line_finding.LineFinding.{LineFindin
 use Rattle.j39_line_findings.specs.declared.witnessed.Witnessed.{Witnessed}
 use Rattle.j39_line_findings.proofs.Ranking.{none_below_itself}
 use Rattle.j39_line_witnesses.specs.declared.found.FoundByCondition.{FoundByCondition}
-use Rattle.j39_line_witness_laws.specs.ReportedByConditions.{ReportWhatVariantsHave}
+use Rattle.j39_line_laws.specs.ReportedByConditions.{ReportWhatVariantsHave}
 use Rattle.j39_line_witnesses.specs.WitnessLaws.{IsReportedAmong}
-use Rattle.j39_full_variants.specs.CountedFindings.{takes_full_for}
+use Rattle.j39_line_check.specs.CountedFindings.{takes_full_for}
 use Rattle.j39_line_check.proofs.CountingRanks.{same_way}
 use Rattle.j39_line_check.proofs.FindingKinds.{no_amount}
 use Rattle.j39_line_check.proofs.Had.{had}

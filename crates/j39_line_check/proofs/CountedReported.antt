@@ -17,16 +17,16 @@ use Rattle.j39_line_findings.specs.declared.full.LineNevers.TheVariants.{Kept}
 use Rattle.j39_line_findings.specs.declared.line_finding.LineFinding.{LineFinding}
 use Rattle.j39_line_findings.specs.declared.line_finding.LineFinding.TheVariants.{OfPlan, OfLoad}
 use Rattle.j39_line_findings.specs.declared.witnessed.Witnessed.{Witnessed}
-use Rattle.j39_line_part_laws.specs.FoundOfCovering.{AreFoundOfCovering, IsAbsentOrFound, is_by_absence}
-use Rattle.j39_full_variant_laws.specs.FoundOfFull.{FullVariantsHaveWhatIsFound}
-use Rattle.j39_full_variant_laws.specs.OldNeeds.{HasNoBadNumber, OldNeedsAreFoundOfFull}
-use Rattle.j39_full_variants.specs.CountedFindings.{IsReportedOfNoLater, is_looked_for, takes_full_for, takes_full_of_need}
-use Rattle.j39_full_variants.specs.LookedVariants.{AreFullVariants}
-use Rattle.j39_full_variants.specs.SetVariants.{takes_alone}
-use Rattle.j39_full_variants.specs.declared.looking.FullVariants.{FullVariants}
+use Rattle.j39_line_laws.specs.FoundOfCovering.{AreFoundOfCovering, IsAbsentOrFound, is_by_absence}
+use Rattle.j39_line_laws.specs.FoundOfFull.{FullVariantsHaveWhatIsFound}
+use Rattle.j39_line_laws.specs.OldNeeds.{HasNoBadNumber, OldNeedsAreFoundOfFull}
+use Rattle.j39_line_check.specs.CountedFindings.{IsReportedOfNoLater, is_looked_for, takes_full_for, takes_full_of_need}
+use Rattle.j39_line_check.specs.LookedVariants.{AreFullVariants}
+use Rattle.j39_line_check.specs.SetVariants.{takes_alone}
+use Rattle.j39_line_check.specs.declared.looking.FullVariants.{FullVariants}
 use Rattle.j39_line_check.proofs.Assembled.{only_one}
 use Rattle.j39_line_check.proofs.CountingRanks.{same_way}
-use Rattle.j39_full_variant_laws.proofs.WithoutNevers.{plan_present}
+use Rattle.j39_line_laws.proofs.WithoutNevers.{plan_present}
 use Rattle.j39_line_check.proofs.FindingKinds.{full_for}
 use Rattle.j39_line_check.proofs.TakenFull.{full_taken, looked_at_full, looked_at_need, need_taken}
 use Rattle.j39_line_check.proofs.Timed.{is_timed}

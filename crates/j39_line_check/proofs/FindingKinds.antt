@@ -13,9 +13,9 @@ use Rattle.j39_line_findings.specs.InFile.{amount_of}
 use Rattle.j39_line_findings.specs.declared.full.FullAlternatives.{FullAlternatives}
 use Rattle.j39_line_findings.specs.declared.line_finding.LineFinding.{LineFinding}
 use Rattle.j39_line_findings.specs.declared.line_finding.LineFinding.TheVariants.{OfPlan, OfLoad}
-use Rattle.j39_line_part_laws.specs.FoundOfCovering.{is_by_absence}
-use Rattle.j39_full_variants.specs.CountedFindings.{takes_full_for}
-use Rattle.j39_full_variants.specs.SetVariants.{takes_alone}
+use Rattle.j39_line_laws.specs.FoundOfCovering.{is_by_absence}
+use Rattle.j39_line_check.specs.CountedFindings.{takes_full_for}
+use Rattle.j39_line_check.specs.SetVariants.{takes_alone}
 
 -- one without a number, or one that counts what is there
 pub amount_kinds : (line : ProductLine) (f : LineFinding) → (amount_of f ≡ 0) ⊎ ((goes_by_conditions line f ≡ false) × (is_by_absence f ≡ false))

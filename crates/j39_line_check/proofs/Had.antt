@@ -2,7 +2,7 @@
 use Rattle.std.proofs.Common.{ℕ, List}
 use Rattle.j39_variants.specs.declared.line.ProductLine.{ProductLine}
 use Rattle.j39_line_findings.specs.declared.line_finding.LineFinding.{LineFinding}
-use Rattle.j39_line_part_laws.proofs.VariantsExist.{some_findings}
+use Rattle.j39_line_laws.proofs.VariantsExist.{some_findings}
 use Rattle.j39_line_check.specs.LineChecks.{HasAtAnyRate, HasIt}
 
 pub had : (line : ProductLine) (v : List ℕ) (f : LineFinding) → HasAtAnyRate line v f → HasIt line v f

@@ -10,7 +10,7 @@ use Rattle.j39_line_findings.specs.PossibleVariants.{IsPossible}
 use Rattle.j39_line_findings.specs.LineFound.{AreVariantFindings, IsFound}
 use Rattle.j39_line_findings.specs.declared.line_finding.LineFinding.{LineFinding}
 use Rattle.j39_line_findings.specs.declared.line_finding.LineFinding.TheVariants.{OfPlan, OfLoad}
-use Rattle.j39_line_part_laws.proofs.VariantsExist.{some_findings}
+use Rattle.j39_line_laws.proofs.VariantsExist.{some_findings}
 use Rattle.j39_line_check.specs.LineChecks.{AreNumbersGood, AreReported, HasIt, IsSure, NothingReportedIsNothingFound}
 use Rattle.j39_line_check.specs.declared.answer.ReportedFinding.{ReportedFinding}
 

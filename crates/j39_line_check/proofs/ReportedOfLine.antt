@@ -12,14 +12,14 @@ use Rattle.j39_line_findings.specs.declared.full.FullAlternatives.{FullAlternati
 use Rattle.j39_line_findings.specs.declared.full.LineNevers.TheVariants.{Kept, LeftOut}
 use Rattle.j39_line_findings.specs.declared.line_finding.LineFinding.{LineFinding}
 use Rattle.j39_line_witnesses.specs.declared.found.FoundByCondition.{FoundByCondition}
-use Rattle.j39_line_witness_laws.specs.ReportedByConditions.{ReportWhatVariantsHave}
-use Rattle.j39_line_condition_laws.specs.ByPresence.{FoundByPresence}
-use Rattle.j39_full_variant_laws.specs.FoundOfFull.{FullVariantsHaveWhatIsFound}
-use Rattle.j39_full_variant_laws.specs.OldNeeds.{OldNeedsAreFoundOfFull}
-use Rattle.j39_full_variant_laws.specs.WithoutNevers.{NeversChangeNothingBuilt}
-use Rattle.j39_full_variants.specs.LookedVariants.{AreFullVariants, IsLooking}
-use Rattle.j39_full_variants.specs.declared.looking.FullVariants.{FullVariants}
-use Rattle.j39_full_variants.specs.declared.looking.Looking.TheVariants.{Few, Many}
+use Rattle.j39_line_laws.specs.ReportedByConditions.{ReportWhatVariantsHave}
+use Rattle.j39_line_laws.specs.ByPresence.{FoundByPresence}
+use Rattle.j39_line_laws.specs.FoundOfFull.{FullVariantsHaveWhatIsFound}
+use Rattle.j39_line_laws.specs.OldNeeds.{OldNeedsAreFoundOfFull}
+use Rattle.j39_line_laws.specs.WithoutNevers.{NeversChangeNothingBuilt}
+use Rattle.j39_line_check.specs.LookedVariants.{AreFullVariants, IsLooking}
+use Rattle.j39_line_check.specs.declared.looking.FullVariants.{FullVariants}
+use Rattle.j39_line_check.specs.declared.looking.Looking.TheVariants.{Few, Many}
 use Rattle.j39_line_check.proofs.Assembled.{by_condition, condition_reported, reported_beside}
 use Rattle.j39_line_check.proofs.CountedReported.{counted_reported, counted_witness}
 use Rattle.j39_line_check.proofs.Pairs.{condition_of_pair, pair_of_found, pair_of_witness, witness_of_pair}

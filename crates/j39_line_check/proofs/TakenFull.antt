@@ -15,13 +15,13 @@ use Rattle.j39_line_findings.specs.Boxes.{is_one_alternative}
 use Rattle.j39_line_findings.specs.FullVariants.{AreFullAlternatives, alternative_at, alternatives_of, full_alternatives, full_of_need}
 use Rattle.j39_line_findings.specs.PossibleVariants.{IsPossible}
 use Rattle.j39_line_findings.specs.declared.full.FullAlternatives.{FullAlternatives}
-use Rattle.j39_line_part_laws.specs.Covering.{IsFullFor}
-use Rattle.j39_full_variant_laws.specs.FoundOfFull.{IsPossibleFull}
-use Rattle.j39_full_variant_laws.specs.OldNeeds.{AsksForAge, IsPossibleFullFor}
-use Rattle.j39_full_variants.specs.CountedFindings.{takes_full_of_need}
-use Rattle.j39_full_variants.specs.FullSets.{IsFullSomehow, full_sets, need_sets}
-use Rattle.j39_full_variants.specs.SetVariants.{IsSetAmong, set_has, takes_alone, takes_from}
-use Rattle.j39_full_variants.proofs.Sets.{taken_one}
+use Rattle.j39_line_laws.specs.Covering.{IsFullFor}
+use Rattle.j39_line_laws.specs.FoundOfFull.{IsPossibleFull}
+use Rattle.j39_line_laws.specs.OldNeeds.{AsksForAge, IsPossibleFullFor}
+use Rattle.j39_line_check.specs.CountedFindings.{takes_full_of_need}
+use Rattle.j39_line_check.specs.FullSets.{IsFullSomehow, full_sets, need_sets}
+use Rattle.j39_line_check.specs.SetVariants.{IsSetAmong, set_has, takes_alone, takes_from}
+use Rattle.j39_line_check.proofs.Sets.{taken_one}
 use Rattle.j39_line_check.proofs.ReportedInOrder.{cases_in, none_in}
 
 has_it : (set : List Alternative) (a : Alternative) → Contains set a → set_has set a ≡ true

@@ -11,7 +11,7 @@ use Rattle.j39_variants.specs.declared.line.ProductLine.{ProductLine}
 use Rattle.j39_line_findings.specs.LineFound.{AreVariantFindings, IsFound}
 use Rattle.j39_line_findings.specs.declared.line_finding.LineFinding.{LineFinding}
 use Rattle.j39_line_findings.specs.declared.line_finding.LineFinding.TheVariants.{OfLoad}
-use Rattle.j39_full_variant_laws.proofs.OldNeeds.{old_in_plan}
+use Rattle.j39_line_laws.proofs.OldNeeds.{old_in_plan}
 use Rattle.j39_line_check.proofs.ReportedInOrder.{none_in}
 
 timed_plan : (plan : Plan) (others : List LoadFinding) (x : LoadFinding) → AreLoadFindings plan (timing_of plan) others → Contains others x

@@ -15,13 +15,13 @@ use Rattle.j39_line_findings.specs.declared.full.LineNevers.TheVariants.{Kept, L
 use Rattle.j39_line_findings.specs.declared.line_finding.LineFinding.{LineFinding}
 use Rattle.j39_line_findings.specs.declared.line_finding.LineFinding.TheVariants.{OfPlan, OfLoad}
 use Rattle.j39_line_findings.specs.declared.witnessed.Witnessed.{Witnessed}
-use Rattle.j39_line_condition_laws.specs.ByPresence.{FoundByPresence}
-use Rattle.j39_full_variant_laws.specs.FoundOfFull.{FullVariantsHaveWhatIsFound}
-use Rattle.j39_full_variant_laws.specs.OldNeeds.{OldNeedsAreFoundOfFull}
-use Rattle.j39_full_variant_laws.specs.WithoutNevers.{NeversChangeNothingBuilt}
-use Rattle.j39_full_variants.specs.CountedFindings.{AreCountedFindings}
-use Rattle.j39_full_variants.specs.LookedVariants.{AreFullVariants, has_bad_number, is_bad_number}
-use Rattle.j39_full_variants.specs.declared.looking.FullVariants.{FullVariants}
+use Rattle.j39_line_laws.specs.ByPresence.{FoundByPresence}
+use Rattle.j39_line_laws.specs.FoundOfFull.{FullVariantsHaveWhatIsFound}
+use Rattle.j39_line_laws.specs.OldNeeds.{OldNeedsAreFoundOfFull}
+use Rattle.j39_line_laws.specs.WithoutNevers.{NeversChangeNothingBuilt}
+use Rattle.j39_line_check.specs.CountedFindings.{AreCountedFindings}
+use Rattle.j39_line_check.specs.LookedVariants.{AreFullVariants, has_bad_number, is_bad_number}
+use Rattle.j39_line_check.specs.declared.looking.FullVariants.{FullVariants}
 use Rattle.j39_line_check.proofs.CountedReported.{counted_reported}
 use Rattle.j39_line_check.proofs.ReportedInOrder.{cases_in, none_in}
 use Rattle.j39_line_check.specs.LineChecks.{AreNumbersGood, HasIt, IsSure}

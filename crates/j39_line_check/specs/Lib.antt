@@ -1,3 +1,11 @@
 pub mod LineChecks
 pub mod LookedTimes
 pub mod inside
+pub mod ReportedConditions
+pub mod ReportedOfLines
+pub mod CountedFindings
+pub mod FullSets
+pub mod LookedAtLaws
+pub mod LookedVariants
+pub mod SetVariantLaws
+pub mod SetVariants

@@ -12,11 +12,11 @@ use Rattle.j39_line_findings.specs.LineFound.{AreVariantFindings, IsFound}
 use Rattle.j39_line_findings.specs.declared.full.FullAlternatives.{FullAlternatives}
 use Rattle.j39_line_findings.specs.declared.line_finding.LineFinding.{LineFinding}
 use Rattle.j39_line_findings.specs.declared.line_finding.LineFinding.TheVariants.{OfPlan, OfLoad}
-use Rattle.j39_line_condition_laws.specs.ByConditions.{MayBeFound}
-use Rattle.j39_full_variants.specs.CountedFindings.{takes_full_for}
-use Rattle.j39_full_variants.specs.LookedVariants.{IsLooking}
-use Rattle.j39_full_variants.specs.declared.looking.FullVariants.{FullVariants}
-use Rattle.j39_full_variants.specs.declared.looking.Looking.TheVariants.{Few, Many}
+use Rattle.j39_line_laws.specs.ByConditions.{MayBeFound}
+use Rattle.j39_line_check.specs.CountedFindings.{takes_full_for}
+use Rattle.j39_line_check.specs.LookedVariants.{IsLooking}
+use Rattle.j39_line_check.specs.declared.looking.FullVariants.{FullVariants}
+use Rattle.j39_line_check.specs.declared.looking.Looking.TheVariants.{Few, Many}
 use Rattle.j39_line_check.specs.declared.answer.LineAnswer.{LineAnswer}
 use Rattle.j39_line_check.specs.declared.answer.LineAnswer.TheVariants.{NoVariant, Found}
 use Rattle.j39_line_check.specs.declared.answer.LookedAt.{LookedAt}

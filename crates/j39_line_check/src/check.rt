@@ -7,15 +7,14 @@ ghost use Rattle.j39_line_check.specs.inside.AddedFindings.{AreAdded, Pair, pair
 
 use crate::answer::{LineAnswer, LookedAt, ReportedFinding};
 use crate::inserting::add;
-use j39_full_variant_laws::{
-    full_variants_have_what_is_found, nevers_change_nothing_that_is_built,
-    old_needs_are_found_of_full_variants,
-};
-use j39_full_variants::{FullVariants, Looking, look};
+use crate::{FullVariants, Looking, look};
 use j39_line_bounds::{LineTimes, no_times};
-use j39_line_condition_laws::what_is_there_is_found;
 use j39_line_findings::Witnessed;
-use j39_line_witness_laws::what_is_reported_is_what_variants_have;
+use j39_line_laws::{
+    full_variants_have_what_is_found, nevers_change_nothing_that_is_built,
+    old_needs_are_found_of_full_variants, what_is_reported_is_what_variants_have,
+    what_is_there_is_found,
+};
 use j39_line_witnesses::{FoundByCondition, found_by_conditions, is_any_variant_possible};
 use j39_variants::ProductLine;
 use std::alloc::{AllocError, Global};

@@ -14,14 +14,14 @@ use Rattle.j39_network.specs.declared.plan.to.To.TheVariants.{All, One}
 use Rattle.j39_variants.specs.declared.line.Alternative.{Alternative}
 use Rattle.j39_variants.specs.declared.line.ProductLine.{ProductLine}
 use Rattle.j39_variants.specs.Variants.{IsVariant, is_in, takes_alternative}
-use Rattle.j39_line_findings.specs.Boxes.{group_lets_in, is_one_alternative, lets_in, lets_in_at, part_lets_in, receiver_lets_in, unit_lets_in}
+use Rattle.j39_line_findings.specs.Boxes.{group_admits, is_one_alternative, admits, admits_at, part_admits, receiver_admits, unit_admits}
 use Rattle.j39_line_findings.specs.Conditions.{are_there, is_part_there}
 use Rattle.j39_line_findings.specs.FullVariants.{alternative_at}
 use Rattle.j39_line_findings.specs.MissedNeeds.{is_group_there, is_in_at, is_unit_there}
 use Rattle.j39_line_findings.specs.There.{is_receiver_there}
 use Rattle.j39_line_findings.specs.declared.part.LinePart.{LinePart}
 use Rattle.j39_line_findings.specs.declared.part.LinePart.TheVariants.{Unit as AUnit, Group, Flow, Need, Request}
-use Rattle.j39_line_findings.specs.KnownParts.{are_parts_known, do_all_let_in, is_group_known, is_list_known, is_list_known_at, is_part_known}
+use Rattle.j39_line_findings.specs.KnownParts.{names_known_choices, do_all_admit, is_group_known, is_list_known, is_list_known_at, is_part_known}
 use Rattle.j39_line_findings.specs.KnownParts.{is_receiver_known, is_unit_known}
 use Rattle.j39_line_findings.proofs.Tests.{all_at, at_all, at_any, any_at, value_inside}
 
@@ -65,7 +65,7 @@ module _ (line : ProductLine) (v : List ℕ) (is : IsVariant line.choices.items 
       let same = is.of_each in
       lt-ltb a.choice (length line.choices.items) (omega (arith, less, same)))
 
-  in_passes : (list : List Alternative) → is_in v list ≡ true → Passes (lets_in list) v
+  in_passes : (list : List Alternative) → is_in v list ≡ true → Passes (admits list) v
   in_passes list inside c p at = elim (cases_Bool (list_any (λ b. b.choice == c) list)) [
     | inl named ↦
         let a = any_at (λ b. b.choice == c) list named in
@@ -78,7 +78,7 @@ module _ (line : ProductLine) (v : List ℕ) (is : IsVariant line.choices.items 
     | inr none ↦ or_left (not (list_any (λ b. b.choice == c) list)) (list_any (λ b. is_one_alternative b (alternative_at c p)) list) (ap not none)
   ]
 
-  passes_in : (list : List Alternative) → is_list_known line list ≡ true → Passes (lets_in list) v → is_in v list ≡ true
+  passes_in : (list : List Alternative) → is_list_known line list ≡ true → Passes (admits list) v → is_in v list ≡ true
   passes_in list known passes = at_all (λ a. list_any (λ b. (b.choice == a.choice) && takes_alternative v b) list) list (λ i a at.
       let less = ltb-true a.choice (length line.choices.items) (all_at (λ a. nat_lt a.choice (length line.choices.items)) list known i a at) in
       let same = is.of_each in
@@ -125,24 +125,24 @@ module _ (line : ProductLine) (v : List ℕ) (is : IsVariant line.choices.items 
         (other.there_so parts.1 (λ c p at. (and_parts (l (alternative_at c p)) (n (alternative_at c p)) (passes c p at)).1));
   }
 
-  pub list_shown : (list : List Alternative) → IsShown (is_in v list) (is_list_known line list) (lets_in list)
+  pub list_shown : (list : List Alternative) → IsShown (is_in v list) (is_list_known line list) (admits list)
   list_shown list = record { known_so = in_known list; passes_so = in_passes list; there_so = passes_in list }
 
-  list_shown_at : (lists : List (Vec Alternative Global)) (i : ℕ) → IsShown (is_in_at v lists i) (is_list_known_at line lists i) (λ a. lets_in_at lists a i)
+  list_shown_at : (lists : List (Vec Alternative Global)) (i : ℕ) → IsShown (is_in_at v lists i) (is_list_known_at line lists i) (λ a. admits_at lists a i)
   list_shown_at lists i = go (slice_get lists i)
     where
       go : (o : Option (Vec Alternative Global)) → IsShown (option_map_or (λ list. is_in v list.items) o false)
-          (option_map_or (λ list. is_list_known line list.items) o false) (λ a. option_map_or (λ list. lets_in list.items a) o true)
+          (option_map_or (λ list. is_list_known line list.items) o false) (λ a. option_map_or (λ list. admits list.items a) o true)
       go None = shown_never (λ a. true)
       go (Some list) = list_shown list.items
 
-  unit_shown : (u : ℕ) → IsShown (is_unit_there line v u) (is_unit_known line u) (λ a. unit_lets_in line a u)
+  unit_shown : (u : ℕ) → IsShown (is_unit_there line v u) (is_unit_known line u) (λ a. unit_admits line a u)
   unit_shown u = list_shown_at line.lists.units.items u
 
-  group_shown : (g : ℕ) → IsShown (is_group_there line v g) (is_group_known line g) (λ a. group_lets_in line a g)
+  group_shown : (g : ℕ) → IsShown (is_group_there line v g) (is_group_known line g) (λ a. group_admits line a g)
   group_shown g = list_shown_at line.lists.groups.items g
 
-  receiver_shown : (to : To) → IsShown (is_receiver_there line v to) (is_receiver_known line to) (λ a. receiver_lets_in line a to)
+  receiver_shown : (to : To) → IsShown (is_receiver_there line v to) (is_receiver_known line to) (λ a. receiver_admits line a to)
   receiver_shown All = shown_always
   receiver_shown (One u) = unit_shown u
 
@@ -156,11 +156,11 @@ module _ (line : ProductLine) (v : List ℕ) (is : IsVariant line.choices.items 
   shown_named : (t k : Bool) (l : Alternative → Bool) → IsShown t k l → (g s : ℕ) (to : To)
       → IsShown (t && (is_group_there line v g && (is_unit_there line v s && is_receiver_there line v to)))
       (k && (is_group_known line g && (is_unit_known line s && is_receiver_known line to)))
-      (λ a. l a && (group_lets_in line a g && (unit_lets_in line a s && receiver_lets_in line a to)))
+      (λ a. l a && (group_admits line a g && (unit_admits line a s && receiver_admits line a to)))
   shown_named t k l own g s to = shown_both _ _ _ _ _ _ own
       (shown_both _ _ _ _ _ _ (group_shown g) (shown_both _ _ _ _ _ _ (unit_shown s) (receiver_shown to)))
 
-  pub part_shown : (part : LinePart) → IsShown (is_part_there line v part) (is_part_known line part) (λ a. part_lets_in line a part)
+  pub part_shown : (part : LinePart) → IsShown (is_part_there line v part) (is_part_known line part) (λ a. part_admits line a part)
   part_shown (AUnit u) = unit_shown u
   part_shown (Group g) = group_shown g
   part_shown (Flow f) = shown_some _ _ _ (λ (flow : FlowPlan). shown_named _ _ _ (list_shown_at line.lists.flows.items f) flow.group flow.sender flow.to)
@@ -171,6 +171,6 @@ module _ (line : ProductLine) (v : List ℕ) (is : IsVariant line.choices.items 
       (list_shown_at line.lists.requests.items r) request.group request.sender request.to)
       (slice_get line.plan.requests.items r)
 
-  pub parts_shown : (parts : List LinePart) → IsShown (are_there line v parts) (are_parts_known line parts) (do_all_let_in line parts)
+  pub parts_shown : (parts : List LinePart) → IsShown (are_there line v parts) (names_known_choices line parts) (do_all_admit line parts)
   parts_shown [] = shown_always
   parts_shown (part ∷ parts) = shown_both _ _ _ _ _ _ (part_shown part) (parts_shown parts)

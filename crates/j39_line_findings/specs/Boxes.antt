@@ -20,53 +20,53 @@ abbrev pub is_one_alternative : Alternative → Alternative → Bool
 is_one_alternative a b = (a.choice == b.choice) && (a.place == b.place)
 
 -- the box of a list has an alternative: the list names it, or none of its choice
-abbrev pub lets_in : List Alternative → Alternative → Bool
-lets_in list a = not (list_any (λ b. b.choice == a.choice) list) || list_any (λ b. is_one_alternative b a) list
+abbrev pub admits : List Alternative → Alternative → Bool
+admits list a = not (list_any (λ b. b.choice == a.choice) list) || list_any (λ b. is_one_alternative b a) list
 
-abbrev pub lets_in_at : List (Vec Alternative Global) → Alternative → ℕ → Bool
-lets_in_at lists a i = option_map_or (λ list. lets_in list.items a) (slice_get lists i) true
+abbrev pub admits_at : List (Vec Alternative Global) → Alternative → ℕ → Bool
+admits_at lists a i = option_map_or (λ list. admits list.items a) (slice_get lists i) true
 
 -- the box of a unit or a group is that of its list
-abbrev pub unit_lets_in : ProductLine → Alternative → ℕ → Bool
-unit_lets_in line a u = lets_in_at line.lists.units.items a u
+abbrev pub unit_admits : ProductLine → Alternative → ℕ → Bool
+unit_admits line a u = admits_at line.lists.units.items a u
 
-abbrev pub group_lets_in : ProductLine → Alternative → ℕ → Bool
-group_lets_in line a g = lets_in_at line.lists.groups.items a g
+abbrev pub group_admits : ProductLine → Alternative → ℕ → Bool
+group_admits line a g = admits_at line.lists.groups.items a g
 
-abbrev pub receiver_lets_in : ProductLine → Alternative → To → Bool
-receiver_lets_in line a All = true
-receiver_lets_in line a (One u) = unit_lets_in line a u
+abbrev pub receiver_admits : ProductLine → Alternative → To → Bool
+receiver_admits line a All = true
+receiver_admits line a (One u) = unit_admits line a u
 
 -- that of a flow or a request is the intersection of its own, and of those of its group, its sender and its receiver
-abbrev pub flow_lets_in : ProductLine → Alternative → ℕ → Bool
-flow_lets_in line a f = option_map_or
-    (λ flow. lets_in_at line.lists.flows.items a f
-    && (group_lets_in line a flow.group && (unit_lets_in line a flow.sender && receiver_lets_in line a flow.to)))
+abbrev pub flow_admits : ProductLine → Alternative → ℕ → Bool
+flow_admits line a f = option_map_or
+    (λ flow. admits_at line.lists.flows.items a f
+    && (group_admits line a flow.group && (unit_admits line a flow.sender && receiver_admits line a flow.to)))
     (slice_get line.plan.flows.items f) true
 
-abbrev pub request_lets_in : ProductLine → Alternative → ℕ → Bool
-request_lets_in line a r = option_map_or
-    (λ request. lets_in_at line.lists.requests.items a r
-    && (group_lets_in line a request.group && (unit_lets_in line a request.sender && receiver_lets_in line a request.to)))
+abbrev pub request_admits : ProductLine → Alternative → ℕ → Bool
+request_admits line a r = option_map_or
+    (λ request. admits_at line.lists.requests.items a r
+    && (group_admits line a request.group && (unit_admits line a request.sender && receiver_admits line a request.to)))
     (slice_get line.plan.requests.items r) true
 
 -- that of a need is the one in which it is asked for: the intersection of its own and its unit's
-abbrev pub need_lets_in : ProductLine → Alternative → ℕ → Bool
-need_lets_in line a d = option_map_or (λ need. lets_in_at line.lists.needs.items a d && unit_lets_in line a need.unit)
+abbrev pub need_admits : ProductLine → Alternative → ℕ → Bool
+need_admits line a d = option_map_or (λ need. admits_at line.lists.needs.items a d && unit_admits line a need.unit)
     (slice_get line.plan.needs.items d) true
 
-abbrev pub part_lets_in : ProductLine → Alternative → LinePart → Bool
-part_lets_in line a (AUnit u) = unit_lets_in line a u
-part_lets_in line a (Group g) = group_lets_in line a g
-part_lets_in line a (Flow f) = flow_lets_in line a f
-part_lets_in line a (Need d) = need_lets_in line a d
-part_lets_in line a (Request r) = request_lets_in line a r
+abbrev pub part_admits : ProductLine → Alternative → LinePart → Bool
+part_admits line a (AUnit u) = unit_admits line a u
+part_admits line a (Group g) = group_admits line a g
+part_admits line a (Flow f) = flow_admits line a f
+part_admits line a (Need d) = need_admits line a d
+part_admits line a (Request r) = request_admits line a r
 
 -- of some alternatives, some of this choice is in all three boxes
 abbrev pub is_choice_in_all : ProductLine → List Alternative → LinePart → LinePart → LinePart → ℕ → Bool
 is_choice_in_all line alternatives p q r c = list_any (λ a. (a.choice == c)
-    && (part_lets_in line a p && (part_lets_in line a q && part_lets_in line a r))) alternatives
+    && (part_admits line a p && (part_admits line a q && part_admits line a r))) alternatives
 
 -- three boxes meet: some variant, possible or not, is in each of them; the alternatives are those of the line
-abbrev pub do_meet : ProductLine → List Alternative → LinePart → LinePart → LinePart → Bool
-do_meet line alternatives p q r = list_all (λ a. is_choice_in_all line alternatives p q r a.choice) alternatives
+abbrev pub do_overlap : ProductLine → List Alternative → LinePart → LinePart → LinePart → Bool
+do_overlap line alternatives p q r = list_all (λ a. is_choice_in_all line alternatives p q r a.choice) alternatives

@@ -19,7 +19,7 @@ use Rattle.j39_network.specs.declared.plan.need_plan.NeedPlan.{NeedPlan}
 use Rattle.j39_network.specs.declared.plan.request_plan.RequestPlan.{RequestPlan}
 use Rattle.j39_variants.specs.declared.line.ProductLine.{ProductLine}
 use Rattle.j39_line_findings.specs.FlowEnds.{are_at_one_address, has_end_in_pool, is_end}
-use Rattle.j39_line_findings.specs.FullVariants.{does_bring}
+use Rattle.j39_line_findings.specs.FullVariants.{provides}
 use Rattle.j39_line_findings.specs.MissedNeeds.{is_group_there, is_need_asked_for, is_unit_there}
 use Rattle.j39_line_findings.specs.There.{is_flow_there, is_request_there}
 use Rattle.j39_line_findings.specs.declared.line_finding.LineFinding.{LineFinding}
@@ -99,7 +99,7 @@ abbrev pub answer_with : ℕ → FlowPlan → ℕ → RequestPlan → List (List
 answer_with f flow r request = if serves request flow then (Flow f ∷ Request r ∷ []) ∷ [] else []
 
 abbrev pub source_parts : ProductLine → NeedPlan → ℕ → FlowPlan → List (List LinePart)
-source_parts line need f flow = if not (does_bring need flow) then []
+source_parts line need f flow = if not (provides need flow) then []
     else if flow.on_request then lines_of_each (answer_with f flow) 0 line.plan.requests.items else (Flow f ∷ []) ∷ []
 
 abbrev pub sources_of : ProductLine → NeedPlan → List (List LinePart)

@@ -11,7 +11,7 @@ use Rattle.j39_network.specs.declared.plan.need_plan.NeedPlan.{NeedPlan}
 use Rattle.j39_variants.specs.declared.line.Alternative.{Alternative}
 use Rattle.j39_variants.specs.declared.line.Choice.{Choice}
 use Rattle.j39_variants.specs.declared.line.ProductLine.{ProductLine}
-use Rattle.j39_line_findings.specs.Boxes.{are_one_answer, do_meet, flow_lets_in, is_one_alternative, lets_in, need_lets_in, request_lets_in}
+use Rattle.j39_line_findings.specs.Boxes.{are_one_answer, do_overlap, flow_admits, is_one_alternative, admits, need_admits, request_admits}
 use Rattle.j39_line_findings.specs.declared.full.FullAlternatives.{FullAlternatives}
 use Rattle.j39_line_findings.specs.declared.full.LineNevers.{LineNevers}
 use Rattle.j39_line_findings.specs.declared.full.LineNevers.TheVariants.{Kept, LeftOut}
@@ -37,7 +37,7 @@ alternatives_of line = lines_of_each alternatives_of_choice 0 line.choices.items
 
 -- each of these lists that has the first alternative has the second
 abbrev pub do_keep : List (Vec Alternative Global) → Alternative → Alternative → Bool
-do_keep lists a b = list_all (λ list. not (lets_in list.items a) || lets_in list.items b) lists
+do_keep lists a b = list_all (λ list. not (admits list.items a) || admits list.items b) lists
 
 -- the second covers the first: with it everything is there that is there with the first, and nothing is left unbuilt that isn't
 abbrev pub is_covered : ProductLine → Alternative → Alternative → Bool
@@ -48,19 +48,19 @@ is_covered line a b =
 -- ---- of a need
 
 -- the flow brings what is needed, whether it is asked for or not
-abbrev pub does_bring : NeedPlan → FlowPlan → Bool
-does_bring need flow = meets [] need (record flow { on_request = false })
+abbrev pub provides : NeedPlan → FlowPlan → Bool
+provides need flow = meets [] need (record flow { on_request = false })
 
 -- both alternatives are in the box of the answer of a flow to a request, or none is, where this box meets that of the need
 abbrev pub agree_on_answer : ProductLine → List Alternative → ℕ → Alternative → Alternative → ℕ → FlowPlan → ℕ → Bool
 agree_on_answer line alternatives d a b f flow r = option_map_or
-    (λ request. not (serves request flow) || (not (do_meet line alternatives (Need d) (Flow f) (Request r))
-    || are_one_answer (flow_lets_in line a f && request_lets_in line a r) (flow_lets_in line b f && request_lets_in line b r)))
+    (λ request. not (serves request flow) || (not (do_overlap line alternatives (Need d) (Flow f) (Request r))
+    || are_one_answer (flow_admits line a f && request_admits line a r) (flow_admits line b f && request_admits line b r)))
     (slice_get line.plan.requests.items r) true
 
 abbrev pub agree_on_sending : ProductLine → List Alternative → ℕ → Alternative → Alternative → ℕ → Bool
 agree_on_sending line alternatives d a b f =
-    not (do_meet line alternatives (Need d) (Flow f) (Flow f)) || are_one_answer (flow_lets_in line a f) (flow_lets_in line b f)
+    not (do_overlap line alternatives (Need d) (Flow f) (Flow f)) || are_one_answer (flow_admits line a f) (flow_admits line b f)
 
 unfoldable pub agree_on_answers : ProductLine → List Alternative → ℕ → Alternative → Alternative → ℕ → FlowPlan → Bool
 agree_on_answers line alternatives d a b f flow = list_all (agree_on_answer line alternatives d a b f flow) (range_with_len 0 (length line.plan.requests.items))
@@ -68,7 +68,7 @@ agree_on_answers line alternatives d a b f flow = list_all (agree_on_answer line
 -- alike of a flow that brings what is needed, and of each of its answers where it is only asked for
 abbrev pub agree_on_flow : ProductLine → List Alternative → ℕ → Alternative → Alternative → NeedPlan → ℕ → Bool
 agree_on_flow line alternatives d a b need f = option_map_or
-    (λ flow. not (does_bring need flow) || (if flow.on_request
+    (λ flow. not (provides need flow) || (if flow.on_request
     then agree_on_answers line alternatives d a b f flow
     else agree_on_sending line alternatives d a b f))
     (slice_get line.plan.flows.items f) true
@@ -96,12 +96,12 @@ abbrev pub is_full_among : ProductLine → List Alternative → Option ℕ → L
 is_full_among line alternatives need these b = list_all (does_leave line alternatives need b) these
 
 -- of a need those of its box are compared
-abbrev pub does_need_let_in : ProductLine → Option ℕ → Alternative → Bool
-does_need_let_in line None a = true
-does_need_let_in line (Some d) a = need_lets_in line a d
+abbrev pub does_need_admit : ProductLine → Option ℕ → Alternative → Bool
+does_need_admit line None a = true
+does_need_admit line (Some d) a = need_admits line a d
 
 abbrev pub compared : ProductLine → List Alternative → Option ℕ → List Alternative
-compared line alternatives need = filter (does_need_let_in line need) alternatives
+compared line alternatives need = filter (does_need_admit line need) alternatives
 
 abbrev pub full_among : ProductLine → List Alternative → Option ℕ → List Alternative → List Alternative
 full_among line alternatives need these = filter (is_full_among line alternatives need these) these

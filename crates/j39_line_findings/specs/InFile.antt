@@ -13,10 +13,10 @@ use Rattle.j39_line_findings.specs.There.{place_in_file}
 use Rattle.j39_line_findings.specs.declared.line_finding.LineFinding.{LineFinding}
 use Rattle.j39_line_findings.specs.declared.line_finding.LineFinding.TheVariants.{OfPlan, OfLoad}
 use Rattle.j39_line_findings.specs.declared.rank.Rank.{Rank}
-use Rattle.j39_line_findings.specs.declared.there.WhatIsThere.{WhatIsThere}
+use Rattle.j39_line_findings.specs.declared.there.Present.{Present}
 
 -- a finding of the plan of a variant, at its places in the file; signals and texts have their places in their group
-abbrev pub finding_in_file : WhatIsThere → Finding → Finding
+abbrev pub finding_in_file : Present → Finding → Finding
 finding_in_file there (SameName u1 u2) = SameName (place_in_file there.units.items u1) (place_in_file there.units.items u2)
 finding_in_file there (SameFixedAddress u1 u2) = SameFixedAddress (place_in_file there.units.items u1) (place_in_file there.units.items u2)
 finding_in_file there (TooFewAddresses n) = TooFewAddresses n
@@ -42,7 +42,7 @@ finding_in_file there (SilentAddress u1 u2) = SilentAddress (place_in_file there
 finding_in_file there (SilentInPool u) = SilentInPool (place_in_file there.units.items u)
 finding_in_file there (FlowContested f) = FlowContested (place_in_file there.flows.items f)
 
-abbrev pub load_finding_in_file : WhatIsThere → LoadFinding → LoadFinding
+abbrev pub load_finding_in_file : Present → LoadFinding → LoadFinding
 load_finding_in_file there (NoPeriod f) = NoPeriod (place_in_file there.flows.items f)
 load_finding_in_file there (Overload n) = Overload n
 load_finding_in_file there (LateFlow f) = LateFlow (place_in_file there.flows.items f)
@@ -50,7 +50,7 @@ load_finding_in_file there (NeedTooOld d) = NeedTooOld (place_in_file there.need
 load_finding_in_file there (AskedTooOften f) = AskedTooOften (place_in_file there.flows.items f)
 
 -- the findings of the plan of a variant in which this is there, and of its load, at their places in the file, and each need that is missed
-abbrev pub findings_in_file : WhatIsThere → List Finding → List LoadFinding → List ℕ → List LineFinding
+abbrev pub findings_in_file : Present → List Finding → List LoadFinding → List ℕ → List LineFinding
 findings_in_file there findings others missed =
     map (λ finding. OfPlan (finding_in_file there finding)) findings
     ++ (map (λ finding. OfLoad (load_finding_in_file there finding)) others ++ map (λ d. OfPlan (NeedUnmet d)) missed)

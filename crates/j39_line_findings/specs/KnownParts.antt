@@ -7,7 +7,7 @@ use Rattle.j39_network.specs.declared.plan.to.To.{To}
 use Rattle.j39_network.specs.declared.plan.to.To.TheVariants.{All, One}
 use Rattle.j39_variants.specs.declared.line.Alternative.{Alternative}
 use Rattle.j39_variants.specs.declared.line.ProductLine.{ProductLine}
-use Rattle.j39_line_findings.specs.Boxes.{part_lets_in}
+use Rattle.j39_line_findings.specs.Boxes.{part_admits}
 use Rattle.j39_line_findings.specs.declared.part.LinePart.{LinePart}
 use Rattle.j39_line_findings.specs.declared.part.LinePart.TheVariants.{Unit as AUnit, Group, Flow, Need, Request}
 
@@ -50,11 +50,11 @@ is_part_known line (Flow f) = is_flow_known line f
 is_part_known line (Need d) = is_need_known line d
 is_part_known line (Request r) = is_request_known line r
 
-abbrev pub are_parts_known : ProductLine → List LinePart → Bool
-are_parts_known line parts = list_all (is_part_known line) parts
+abbrev pub names_known_choices : ProductLine → List LinePart → Bool
+names_known_choices line parts = list_all (is_part_known line) parts
 
 -- ---- boxes of parts
 
 -- all of their boxes have an alternative
-abbrev pub do_all_let_in : ProductLine → List LinePart → Alternative → Bool
-do_all_let_in line parts a = list_all (part_lets_in line a) parts
+abbrev pub do_all_admit : ProductLine → List LinePart → Alternative → Bool
+do_all_admit line parts a = list_all (part_admits line a) parts

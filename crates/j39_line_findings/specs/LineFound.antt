@@ -11,15 +11,15 @@ use Rattle.j39_line_findings.specs.AllVariants.{IsOneOf}
 use Rattle.j39_line_findings.specs.Best.{IsWitnessAmong, amount_in, rank_in}
 use Rattle.j39_line_findings.specs.InFile.{amount_of, findings_in_file, rank_of}
 use Rattle.j39_line_findings.specs.PossibleVariants.{IsPossible}
-use Rattle.j39_line_findings.specs.There.{IsWhatIsThere, missed_needs}
+use Rattle.j39_line_findings.specs.There.{IsPresent, missed_needs}
 use Rattle.j39_line_findings.specs.declared.line_finding.LineFinding.{LineFinding}
-use Rattle.j39_line_findings.specs.declared.there.WhatIsThere.{WhatIsThere}
+use Rattle.j39_line_findings.specs.declared.there.Present.{Present}
 use Rattle.j39_line_findings.specs.declared.witnessed.Witnessed.{Witnessed}
 
 -- a variant has the findings of its plan, at their places in the file, and the need that is asked for and isn't in its plan is unmet
 pub record AreVariantFindings (line : ProductLine) (variant : List ℕ) (findings : List LineFinding) : Type 0 where
-  pub there : WhatIsThere
-  pub is_there : IsWhatIsThere line variant there
+  pub there : Present
+  pub is_there : IsPresent line variant there
   pub plan : Plan
   pub is_plan : IsVariantPlan line variant plan
   pub others : List LoadFinding

@@ -8,7 +8,7 @@ use Rattle.j39_variants.specs.declared.line.ProductLine.{ProductLine}
 use Rattle.j39_line_findings.specs.MissedNeeds.{is_group_there, is_in_at, is_need_asked_for, is_need_missed, is_source_there, is_unit_there}
 use Rattle.j39_line_findings.specs.declared.there.PartKind.{PartKind}
 use Rattle.j39_line_findings.specs.declared.there.PartKind.TheVariants.{Unit as AUnit, Group, Flow, Need, Request, MissedNeed}
-use Rattle.j39_line_findings.specs.declared.there.WhatIsThere.{WhatIsThere}
+use Rattle.j39_line_findings.specs.declared.there.Present.{Present}
 
 abbrev pub is_receiver_there : ProductLine → List ℕ → To → Bool
 is_receiver_there line variant All = true
@@ -48,7 +48,7 @@ abbrev pub missed_needs : ProductLine → List ℕ → List ℕ
 missed_needs line variant = places_of_those (is_need_missed line variant) (length line.plan.needs.items)
 
 -- the places in the file of what is there, in order
-pub record IsWhatIsThere (line : ProductLine) (variant : List ℕ) (there : WhatIsThere) : Type 0 where
+pub record IsPresent (line : ProductLine) (variant : List ℕ) (there : Present) : Type 0 where
   pub has_units : there.units.items ≡ places_of_those (is_unit_there line variant) (length line.plan.units.items)
   pub has_groups : there.groups.items ≡ places_of_those (is_group_there line variant) (length line.plan.groups.items)
   pub has_flows : there.flows.items ≡ places_of_those (is_flow_there line variant) (length line.plan.flows.items)

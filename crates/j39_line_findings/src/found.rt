@@ -7,7 +7,7 @@ ghost use Rattle.j39_line_findings.specs.declared.line_finding.LineFinding.TheVa
 ghost use Rattle.j39_findings.specs.declared.checking.finding.Finding.TheVariants.{NeedUnmet};
 
 use crate::line_finding::{LineFinding, finding_in_file, load_finding_in_file};
-use crate::there::{WhatIsThere, missed_needs};
+use crate::there::{Present, missed_needs};
 use j39_answer::PlanAnswer;
 use j39_findings::Finding;
 use j39_load::LoadFinding;
@@ -17,7 +17,7 @@ use std::alloc::{AllocError, Global};
 
 fn in_file(
     alloc: Global,
-    there: &WhatIsThere,
+    there: &Present,
     findings: &[Finding],
 ) -> Result<Vec<LineFinding>, AllocError>
     ensures { IfOk result (λ v. v.items ≡ map (λ finding. OfPlan (finding_in_file there.now finding)) findings.now) }
@@ -30,7 +30,7 @@ fn in_file(
 
 fn others_in_file(
     alloc: Global,
-    there: &WhatIsThere,
+    there: &Present,
     others: &[LoadFinding],
 ) -> Result<Vec<LineFinding>, AllocError>
     ensures { IfOk result (λ v. v.items ≡ map (λ finding. OfLoad (load_finding_in_file there.now finding)) others.now) }
@@ -53,7 +53,7 @@ fn missed(alloc: Global, needs: &[usize]) -> Result<Vec<LineFinding>, AllocError
 /// The plan of a variant, all that is known of this plan, and what of the file is there.
 #[derive(Drop)]
 pub struct VariantAnswer {
-    pub there: WhatIsThere,
+    pub there: Present,
     pub plan: Plan,
     pub answer: PlanAnswer,
 }
@@ -64,7 +64,7 @@ impl VariantAnswer {
         ensures { IfOk result (IsVariantAnswer line.now variant.now) }
     {
         let plan = plan_of(alloc, line, variant)?;
-        let there = WhatIsThere::new(alloc, line, variant)?;
+        let there = Present::new(alloc, line, variant)?;
         let answer = PlanAnswer::new(alloc, &plan)?;
         Ok(VariantAnswer {
             there,

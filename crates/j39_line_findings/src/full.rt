@@ -7,13 +7,13 @@ ghost use Rattle.j39_line_findings.specs.FullVariants.{agree_on_flow};
 ghost use Rattle.j39_line_findings.specs.FullVariants.{agree_on_flows, agree_on_need};
 ghost use Rattle.j39_line_findings.specs.FullVariants.{agree_on_sending, alternatives_of, alternatives_of_choice};
 ghost use Rattle.j39_line_findings.specs.Boxes.{are_one_answer};
-ghost use Rattle.j39_line_findings.specs.FullVariants.{compared, do_keep, does_bring, does_leave, does_need_let_in};
+ghost use Rattle.j39_line_findings.specs.FullVariants.{compared, do_keep, provides, does_leave, does_need_admit};
 ghost use Rattle.j39_line_findings.specs.FullVariants.{full_alternatives, full_among, full_of_need, is_covered};
 ghost use Rattle.j39_line_findings.specs.FullVariants.{is_covered_for};
 ghost use Rattle.j39_line_findings.specs.FullVariants.{is_full_among, line_with, nevers_with};
 
 use crate::part::{
-    LinePart, do_meet, flow_lets_in, is_one_alternative, lets_in, need_lets_in, request_lets_in,
+    LinePart, admits, do_overlap, flow_admits, is_one_alternative, need_admits, request_admits,
 };
 use j39_network::{FlowPlan, NeedPlan, meets, serves};
 use j39_variants::{Alternative, Choice, ProductLine};
@@ -55,7 +55,7 @@ fn do_keep(lists: &[Vec<Alternative>], one: &Alternative, other: &Alternative) -
 {
     lists
         .iter()
-        .all(|list| !lets_in(list, one) || lets_in(list, other))
+        .all(|list| !admits(list, one) || admits(list, other))
 }
 
 /// Whether the boxes of what isn't built count.
@@ -97,8 +97,8 @@ fn is_covered(
 }
 
 /// Whether the flow brings what is needed, whether it is asked for or not.
-pub fn does_bring(need: &NeedPlan, flow: &FlowPlan) -> bool
-    ensures { result ≡ does_bring need.now flow.now }
+pub fn provides(need: &NeedPlan, flow: &FlowPlan) -> bool
+    ensures { result ≡ provides need.now flow.now }
 {
     let mut by_itself = *flow;
     by_itself.on_request = false;
@@ -129,7 +129,7 @@ impl Comparing<'_> {
         match self.line.plan.requests.get(asked) {
             Some(request) => {
                 !serves(request, flow)
-                    || !do_meet(
+                    || !do_overlap(
                         self.line,
                         self.alternatives,
                         LinePart::Need(self.need),
@@ -137,10 +137,10 @@ impl Comparing<'_> {
                         LinePart::Request(asked),
                     )
                     || are_one_answer(
-                        flow_lets_in(self.line, self.one, place)
-                            && request_lets_in(self.line, self.one, asked),
-                        flow_lets_in(self.line, self.other, place)
-                            && request_lets_in(self.line, self.other, asked),
+                        flow_admits(self.line, self.one, place)
+                            && request_admits(self.line, self.one, asked),
+                        flow_admits(self.line, self.other, place)
+                            && request_admits(self.line, self.other, asked),
                     )
             }
             None => true,
@@ -159,15 +159,15 @@ impl Comparing<'_> {
         ensures { result
             ≡ agree_on_sending self.now.line.now self.now.alternatives.now self.now.need self.now.one.now self.now.other.now place }
     {
-        !do_meet(
+        !do_overlap(
             self.line,
             self.alternatives,
             LinePart::Need(self.need),
             LinePart::Flow(place),
             LinePart::Flow(place),
         ) || are_one_answer(
-            flow_lets_in(self.line, self.one, place),
-            flow_lets_in(self.line, self.other, place),
+            flow_admits(self.line, self.one, place),
+            flow_admits(self.line, self.other, place),
         )
     }
 
@@ -177,7 +177,7 @@ impl Comparing<'_> {
     {
         match self.line.plan.flows.get(place) {
             Some(flow) => {
-                if !does_bring(need, flow) {
+                if !provides(need, flow) {
                     true
                 } else if flow.on_request {
                     self.agree_on_answers(place, flow)
@@ -264,12 +264,12 @@ fn is_full_among(
     these.iter().all(|other| does_leave(line, nevers, alternatives, need, one, other))
 }
 
-fn does_need_let_in(line: &ProductLine, need: Option<usize>, alternative: &Alternative) -> bool
-    ensures { result ≡ does_need_let_in line.now need alternative.now }
+fn does_need_admit(line: &ProductLine, need: Option<usize>, alternative: &Alternative) -> bool
+    ensures { result ≡ does_need_admit line.now need alternative.now }
 {
     match need {
         None => true,
-        Some(need) => need_lets_in(line, alternative, need),
+        Some(need) => need_admits(line, alternative, need),
     }
 }
 
@@ -284,7 +284,7 @@ fn compared(
     alternatives
         .iter()
         .copied()
-        .filter(|alternative| does_need_let_in(line, need, alternative))
+        .filter(|alternative| does_need_admit(line, need, alternative))
         .collect(alloc)
 }
 

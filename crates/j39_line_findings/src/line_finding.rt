@@ -4,7 +4,7 @@ ghost use Rattle.j39_line_findings.specs.InFile.{amount_of, finding_in_file, fin
 ghost use Rattle.j39_line_findings.specs.InFile.{load_finding_rank, rank_by, rank_of};
 
 use crate::rank::Rank;
-use crate::there::{WhatIsThere, place_in_file};
+use crate::there::{Present, place_in_file};
 use j39_findings::Finding;
 use j39_load::LoadFinding;
 
@@ -18,7 +18,7 @@ pub enum LineFinding {
 }
 
 /// A finding of the plan of a variant, at its places in the file.
-pub(crate) fn finding_in_file(there: &WhatIsThere, finding: Finding) -> Finding
+pub(crate) fn finding_in_file(there: &Present, finding: Finding) -> Finding
     ensures { result ≡ finding_in_file there.now finding }
 {
     match finding {
@@ -79,7 +79,7 @@ pub(crate) fn finding_in_file(there: &WhatIsThere, finding: Finding) -> Finding
 }
 
 /// One of its load, alike.
-pub(crate) fn load_finding_in_file(there: &WhatIsThere, finding: LoadFinding) -> LoadFinding
+pub(crate) fn load_finding_in_file(there: &Present, finding: LoadFinding) -> LoadFinding
     ensures { result ≡ load_finding_in_file there.now finding }
 {
     match finding {

@@ -1,7 +1,7 @@
 //! What is there in a variant, and its places in the file.
 ghost use Rattle.std.specs.Prelude.{◌≡◌, IfOk};
 ghost use Rattle.j39_line_findings.specs.Conditions.{is_part_there};
-ghost use Rattle.j39_line_findings.specs.There.{IsWhatIsThere, is_flow_there, is_need_there, is_receiver_there};
+ghost use Rattle.j39_line_findings.specs.There.{IsPresent, is_flow_there, is_need_there, is_receiver_there};
 ghost use Rattle.j39_line_findings.specs.There.{is_kind_there, is_request_there, missed_needs, place_in_file};
 ghost use Rattle.j39_line_findings.specs.There.{places_of_those};
 
@@ -127,7 +127,7 @@ pub(crate) fn missed_needs(
 
 /// The places in the file of what is there in a variant, in order.
 #[derive(Drop)]
-pub struct WhatIsThere {
+pub struct Present {
     pub units: Vec<usize>,
     pub groups: Vec<usize>,
     pub flows: Vec<usize>,
@@ -135,13 +135,13 @@ pub struct WhatIsThere {
     pub requests: Vec<usize>,
 }
 
-impl WhatIsThere {
+impl Present {
     /// What is there in a variant.
     pub fn new(alloc: Global, line: &ProductLine, variant: &[usize]) -> Result<Self, AllocError>
-        ensures { IfOk result (IsWhatIsThere line.now variant.now) }
+        ensures { IfOk result (IsPresent line.now variant.now) }
     {
         let plan = &line.plan;
-        Ok(WhatIsThere {
+        Ok(Present {
             units: places_there(alloc, line, variant, PartKind::Unit, plan.units.len())?,
             groups: places_there(alloc, line, variant, PartKind::Group, plan.groups.len())?,
             flows: places_there(alloc, line, variant, PartKind::Flow, plan.flows.len())?,

@@ -12,12 +12,12 @@ use Rattle.j39_variants.specs.declared.line.Alternative.{Alternative}
 use Rattle.j39_variants.specs.declared.line.ProductLine.{ProductLine}
 use Rattle.j39_variants.specs.Variants.{IsVariant, is_in, is_possible}
 use Rattle.j39_variant_search.specs.VariantSearch.{IsFirstOutside, IsOutsideBoxes, NoneOutside, box_flags, boxes_flags, is_in_box}
-use Rattle.j39_line_findings.specs.Boxes.{lets_in}
+use Rattle.j39_line_findings.specs.Boxes.{admits}
 use Rattle.j39_line_findings.specs.Conditions.{are_there, meets_any, meets_condition}
 use Rattle.j39_line_findings.specs.PossibleVariants.{IsPossible}
 use Rattle.j39_line_findings.specs.declared.part.LinePart.{LinePart}
 use Rattle.j39_line_witnesses.specs.FirstMeeting.{IsWitnessOf, NoneMeets}
-use Rattle.j39_line_findings.specs.KnownParts.{are_parts_known, do_all_let_in, is_list_known}
+use Rattle.j39_line_findings.specs.KnownParts.{names_known_choices, do_all_admit, is_list_known}
 use Rattle.j39_line_witnesses.specs.PartBoxes.{holes_of_parts, list_box, never_hole, never_holes, parts_box, parts_hole}
 use Rattle.j39_line_witnesses.specs.Presences.{condition_of, parts_in}
 use Rattle.j39_line_witnesses.specs.WitnessLaws.{BoxesAreExact}
@@ -55,28 +55,28 @@ or_nothing false is = is
 -- ---- boxes of a variant
 
 module _ (line : ProductLine) (v : List ℕ) (is : IsVariant line.choices.items v) where
-  parts_within : (parts : List LinePart) → are_parts_known line parts ≡ true → is_in_box (parts_box line parts) v ≡ are_there line v parts
+  parts_within : (parts : List LinePart) → names_known_choices line parts ≡ true → is_in_box (parts_box line parts) v ≡ are_there line v parts
   parts_within parts known =
       let shown = parts_shown line v is parts in
       one_answer (is_in_box (parts_box line parts) v) (are_there line v parts)
-      (λ within. shown.there_so known (within_passing (do_all_let_in line parts) line.choices.items v within))
-      (λ there. passing_is_within (do_all_let_in line parts) line.choices.items v is (shown.passes_so there))
+      (λ within. shown.there_so known (within_passing (do_all_admit line parts) line.choices.items v within))
+      (λ there. passing_is_within (do_all_admit line parts) line.choices.items v is (shown.passes_so there))
 
   list_within : (list : List Alternative) → is_list_known line list ≡ true → is_in_box (list_box line list) v ≡ is_in v list
   list_within list known =
       let shown = list_shown line v is list in
       one_answer (is_in_box (list_box line list) v) (is_in v list)
-      (λ within. shown.there_so known (within_passing (lets_in list) line.choices.items v within))
-      (λ there. passing_is_within (lets_in list) line.choices.items v is (shown.passes_so there))
+      (λ within. shown.there_so known (within_passing (admits list) line.choices.items v within))
+      (λ there. passing_is_within (admits list) line.choices.items v is (shown.passes_so there))
 
   abbrev inside : List (List Bool) → Bool
   inside hole = is_in_box hole v
 
   in_hole : (parts : List LinePart) → list_any inside (parts_hole line parts) ≡ are_there line v parts
-  in_hole parts = elim (cases_Bool (are_parts_known line parts)) [
+  in_hole parts = elim (cases_Bool (names_known_choices line parts)) [
     | inl known ↦ rw known (last (inside (parts_box line parts)) ∙ parts_within parts known)
     | inr unknown ↦
-        let none : are_there line v parts ≡ false = never_true (are_there line v parts) (are_parts_known line parts)
+        let none : are_there line v parts ≡ false = never_true (are_there line v parts) (names_known_choices line parts)
         (parts_shown line v is parts).known_so unknown in
         rw unknown (sym none)
   ]
@@ -125,7 +125,7 @@ known_and false inside false same known = refl
 
 pub exact_boxes : BoxesAreExact
 exact_boxes line v is = record {
-  parts_there = λ parts. known_and (are_parts_known line parts) (is_in_box (parts_box line parts) v) (are_there line v parts)
+  parts_there = λ parts. known_and (names_known_choices line parts) (is_in_box (parts_box line parts) v) (are_there line v parts)
       (parts_within line v is parts) (parts_shown line v is parts).known_so;
   list_has = λ list. known_and (is_list_known line list) (is_in_box (list_box line list) v) (is_in v list)
       (list_within line v is list) (list_shown line v is list).known_so;
@@ -133,7 +133,7 @@ exact_boxes line v is = record {
 
 -- ---- a condition
 
-module _ (line : ProductLine) (presence : Presence) (known : are_parts_known line presence.together.items ≡ true) where
+module _ (line : ProductLine) (presence : Presence) (known : names_known_choices line presence.together.items ≡ true) where
   abbrev box : List (List Bool)
   box = parts_box line presence.together.items
 
@@ -149,7 +149,7 @@ module _ (line : ProductLine) (presence : Presence) (known : are_parts_known lin
 
   outside_meets : (v : List ℕ) → IsOutsideBoxes box holes v → IsPossible line v × (meets_any line v (condition_of presence ∷ []) ≡ true)
   outside_meets v out =
-      let is = within_variant (do_all_let_in line presence.together.items) line.choices.items v out.in_box in
+      let is = within_variant (do_all_admit line presence.together.items) line.choices.items v out.in_box in
       let there : are_there line v presence.together.items ≡ true = sym (parts_within line v is presence.together.items known) ∙ out.in_box in
       let none = none_of_both (is_possible line.nevers.items v) (list_any (are_there line v) (parts_in presence.lacking.items))
       (sym (in_none_of v is) ∙ out.in_none) in (
@@ -187,10 +187,10 @@ module _ (line : ProductLine) (presence : Presence) (known : are_parts_known lin
       (subst (λ hs. MatchOption found (NoneOutside within hs) (λ v. IsFirstOutside within hs v.items)) are_holes outside))
 
 -- what is not known is never there
-pub none_unknown : (line : ProductLine) (presence : Presence) → are_parts_known line presence.together.items ≡ false
+pub none_unknown : (line : ProductLine) (presence : Presence) → names_known_choices line presence.together.items ≡ false
     → NoneMeets line (condition_of presence ∷ [])
 none_unknown line presence unknown v possible =
-    let none = never_true (are_there line v presence.together.items) (are_parts_known line presence.together.items)
+    let none = never_true (are_there line v presence.together.items) (names_known_choices line presence.together.items)
     (parts_shown line v possible.is_variant presence.together.items).known_so unknown in
     rw none refl
 

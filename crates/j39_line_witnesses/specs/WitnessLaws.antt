@@ -11,14 +11,14 @@ use Rattle.j39_line_findings.specs.LineFound.{IsFound}
 use Rattle.j39_line_findings.specs.declared.line_finding.LineFinding.{LineFinding}
 use Rattle.j39_line_findings.specs.declared.part.LinePart.{LinePart}
 use Rattle.j39_line_witnesses.specs.FirstMeeting.{IsFirstMeeting}
-use Rattle.j39_line_findings.specs.KnownParts.{are_parts_known, is_list_known}
+use Rattle.j39_line_findings.specs.KnownParts.{names_known_choices, is_list_known}
 use Rattle.j39_line_witnesses.specs.PartBoxes.{list_box, parts_box}
 use Rattle.j39_line_witnesses.specs.WitnessedFindings.{AreWitnessed}
 use Rattle.j39_line_witnesses.specs.declared.found.FoundByCondition.{FoundByCondition}
 
 -- a variant is in the box of parts where they are there, and in that of a list where it is in this one's
 pub record AreBoxesExact (line : ProductLine) (variant : List ℕ) : Type 0 where
-  pub parts_there : (parts : List LinePart) → (are_parts_known line parts && is_in_box (parts_box line parts) variant) ≡ are_there line variant parts
+  pub parts_there : (parts : List LinePart) → (names_known_choices line parts && is_in_box (parts_box line parts) variant) ≡ are_there line variant parts
   pub list_has : (list : List Alternative) → (is_list_known line list && is_in_box (list_box line list) variant) ≡ is_in variant list
 
 abbrev pub BoxesAreExact : Type 0

@@ -1,22 +1,22 @@
 //! Boxes of variants: of each choice, of each of its alternatives, whether the box has it.
 ghost use Rattle.std.specs.Prelude.{◌≡◌, ◌++◌, IfOk, OnOk};
 ghost use Rattle.j39_variant_search.specs.VariantSearch.{box_flags, boxes_flags};
-ghost use Rattle.j39_line_findings.specs.KnownParts.{do_all_let_in};
+ghost use Rattle.j39_line_findings.specs.KnownParts.{do_all_admit};
 ghost use Rattle.j39_line_witnesses.specs.PartBoxes.{box_test, flags_by, flags_of_choice, hole_of, holes_of_parts};
 ghost use Rattle.j39_line_witnesses.specs.PartBoxes.{is_test_known};
 ghost use Rattle.j39_line_witnesses.specs.PartBoxes.{list_box, never_holes, parts_box};
 
-use crate::known::{are_parts_known, is_list_known};
-use j39_line_findings::{LinePart, lets_in, part_lets_in};
+use crate::known::{is_list_known, names_known_choices};
+use j39_line_findings::{LinePart, admits, part_admits};
 use j39_variants::{Alternative, Choice, ProductLine};
 use std::alloc::{AllocError, Global};
 
-fn do_all_let_in(line: &ProductLine, parts: &[LinePart], alternative: &Alternative) -> bool
-    ensures { result ≡ do_all_let_in line.now parts.now alternative.now }
+fn do_all_admit(line: &ProductLine, parts: &[LinePart], alternative: &Alternative) -> bool
+    ensures { result ≡ do_all_admit line.now parts.now alternative.now }
 {
     parts
         .iter()
-        .all(|part| part_lets_in(line, alternative, *part))
+        .all(|part| part_admits(line, alternative, *part))
 }
 
 // Which alternatives a box has.
@@ -29,12 +29,12 @@ enum BoxTest<'a> {
 }
 
 impl BoxTest<'_> {
-    fn lets_in(&self, line: &ProductLine, alternative: &Alternative) -> bool
+    fn admits(&self, line: &ProductLine, alternative: &Alternative) -> bool
         ensures { result ≡ box_test line.now self.now alternative.now }
     {
         match self {
-            BoxTest::OfList(list) => lets_in(list, alternative),
-            BoxTest::OfParts(parts) => do_all_let_in(line, parts, alternative),
+            BoxTest::OfList(list) => admits(list, alternative),
+            BoxTest::OfParts(parts) => do_all_admit(line, parts, alternative),
         }
     }
 
@@ -44,7 +44,7 @@ impl BoxTest<'_> {
     {
         match self {
             BoxTest::OfList(list) => is_list_known(line, list),
-            BoxTest::OfParts(parts) => are_parts_known(line, parts),
+            BoxTest::OfParts(parts) => names_known_choices(line, parts),
         }
     }
 }
@@ -59,7 +59,7 @@ fn flags_of_choice(
     ensures { IfOk result (λ v. v.items ≡ flags_of_choice (box_test line.now test.now) choice reported.now) }
 {
     (0..reported.alternatives.len())
-        .map(|place| test.lets_in(line, &Alternative { choice, place }))
+        .map(|place| test.admits(line, &Alternative { choice, place }))
         .collect(alloc)
 }
 

@@ -1,7 +1,7 @@
 //! Whether the lists of what stands in the file name only choices that the line has. What names another one is there in
 //! no variant.
 ghost use Rattle.std.specs.Prelude.{◌≡◌};
-ghost use Rattle.j39_line_findings.specs.KnownParts.{are_parts_known, is_flow_known, is_group_known, is_list_known};
+ghost use Rattle.j39_line_findings.specs.KnownParts.{names_known_choices, is_flow_known, is_group_known, is_list_known};
 ghost use Rattle.j39_line_findings.specs.KnownParts.{is_list_known_at};
 ghost use Rattle.j39_line_findings.specs.KnownParts.{is_need_known, is_part_known, is_receiver_known, is_request_known};
 ghost use Rattle.j39_line_findings.specs.KnownParts.{is_unit_known};
@@ -100,8 +100,8 @@ fn is_part_known(line: &ProductLine, part: LinePart) -> bool
 }
 
 /// Whether all lists by which these parts are there do.
-pub(crate) fn are_parts_known(line: &ProductLine, parts: &[LinePart]) -> bool
-    ensures { result ≡ are_parts_known line.now parts.now }
+pub(crate) fn names_known_choices(line: &ProductLine, parts: &[LinePart]) -> bool
+    ensures { result ≡ names_known_choices line.now parts.now }
 {
     parts.iter().all(|part| is_part_known(line, *part))
 }

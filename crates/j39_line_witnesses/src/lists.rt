@@ -6,7 +6,7 @@ ghost use Rattle.j39_line_witnesses.specs.FlowTests.{flow_test};
 ghost use Rattle.j39_line_witnesses.specs.Presences.{parts_in};
 
 use crate::flow_tests::FlowTest;
-use j39_line_findings::{LinePart, does_bring};
+use j39_line_findings::{LinePart, provides};
 use j39_network::{FlowPlan, NeedPlan, RequestPlan, serves};
 use j39_variants::ProductLine;
 use std::alloc::{AllocError, Global};
@@ -105,7 +105,7 @@ fn add_source(
     ensures { OnOk result (parts_in found.new.items ≡ parts_in found.old.items
         ++ source_parts line.now need.now place flow.now) }
 {
-    if !does_bring(need, flow) {
+    if !provides(need, flow) {
         return Ok(());
     }
     if flow.on_request {

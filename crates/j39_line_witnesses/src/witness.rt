@@ -9,7 +9,7 @@ ghost use Rattle.j39_line_witnesses.specs.Presences.{condition_of, conditions_in
 
 use crate::boxes::{add_holes, never_holes, parts_box};
 use crate::conditions::conditions_of;
-use crate::known::are_parts_known;
+use crate::known::names_known_choices;
 use crate::order::earlier_of;
 use crate::presence::{Presence, where_together};
 use j39_line_findings::LineFinding;
@@ -28,7 +28,7 @@ fn first_meeting(
     ensures kept { OnOk result (boxes_flags holes.new.items ≡ boxes_flags holes.old.items) }
     ensures first { IfOk result (IsWitnessOf line.now (condition_of condition.now ∷ [])) }
 {
-    if !are_parts_known(line, &condition.together) {
+    if !names_known_choices(line, &condition.together) {
         return Ok(None);
     }
     let within = parts_box(alloc, line, &condition.together)?;

@@ -9,3 +9,15 @@ pub mod Reading
 pub mod Unaltered
 pub mod Values
 pub mod PlainForwards
+pub mod Gateways
+pub mod Vehicles
+pub mod ForwardedStreams
+pub mod KeptBuses
+pub mod MessagesSentOn
+pub mod PlainTimes
+pub mod Prompt
+pub mod Seen
+pub mod ValuesArrive
+pub mod ValuesBrought
+pub mod VehicleAges
+pub mod YoungValues

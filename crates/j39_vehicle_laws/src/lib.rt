@@ -1,7 +1,9 @@
-//! Laws of vehicles: what gateways send on from bus to bus arrives unaltered.
+//! Laws of vehicles: what gateways send on from bus to bus arrives unaltered, how often it comes, and how old it is.
 #![tactic(auto)]
 
 mod gateways;
+mod handing_on;
+mod times;
 
 ghost use Rattle.std.specs.Prelude.{[]};
 ghost use Rattle.std.specs.Global.{Global};
@@ -16,9 +18,17 @@ ghost use Rattle.j39_vehicle_laws.specs.Unaltered.{IsUnaltered};
 ghost use Rattle.j39_vehicle_laws.specs.Values.{HavingIsOfValues, OneValueIsPassedOn};
 
 pub use gateways::what_is_read_was_written;
+pub use handing_on::{
+    a_frame_is_handed_on, ages_add_over_gateways, forwarded_frames_keep_to_their_streams,
+    gateways_keep_streams, steady_clocks_are_clocks,
+};
 use j39_run_laws::{
     answered_messages_arrive, reports_are_sound, sent_frames_are_sound, sent_frames_arrive,
     unanswered_messages_arrive,
+};
+pub use times::{
+    a_message_is_sent_on, a_value_is_brought, ages_are_bounds, direct_forwards_have_room,
+    gateways_keep_to_plans, sound_vehicles_keep_ages,
 };
 
 /// Of a vehicle without findings, in each run of it, whatever the serial numbers of its boxes are, in which gateways

@@ -16,8 +16,8 @@ use Rattle.j39_vehicle_times.specs.TimeFindings.{AreTimeFindings}
 use Rattle.j39_vehicle_times.specs.declared.bus_delays.Delays.{Delays}
 use Rattle.j39_vehicle_laws.specs.Passing.{PassedMessagesArrive}
 use Rattle.j39_vehicle_laws.specs.Unaltered.{IsUnaltered}
-use Rattle.j39_vehicle_time_laws.specs.ValuesArrive.{DoValuesArrive}
-use Rattle.j39_vehicle_time_laws.specs.VehicleAges.{AreAgesKept, AreForwardedPausesKept, AreVehicleNeedsKept, AreVehicleStreamsKept}
+use Rattle.j39_vehicle_laws.specs.ValuesArrive.{DoValuesArrive}
+use Rattle.j39_vehicle_laws.specs.VehicleAges.{AreAgesKept, AreForwardedPausesKept, AreVehicleNeedsKept, AreVehicleStreamsKept}
 
 -- nothing is found in a plan and in what it asks of its bus
 abbrev pub HasCalmPlan : BusPlan → Type 0

@@ -5,8 +5,7 @@ use j39_findings::clean_where_none;
 use j39_plan_text::clean_plans_are_certified;
 use j39_vehicle::Vehicle;
 use j39_vehicle_findings::vehicle_findings_are_exact;
-use j39_vehicle_laws::{nothing_is_altered, passed_messages_arrive};
-use j39_vehicle_time_laws::sound_vehicles_keep_ages;
+use j39_vehicle_laws::{nothing_is_altered, passed_messages_arrive, sound_vehicles_keep_ages};
 use j39_vehicle_times::time_findings_are_exact;
 
 /// Of a vehicle in which nothing is wrong the plan of each bus is certified, and nothing is wrong with what goes over

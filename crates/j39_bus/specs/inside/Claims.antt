@@ -4,7 +4,7 @@ use Rattle.std.specs.List.{list_all}
 use Rattle.j39_claim.specs.declared.item.Item.{Item}
 use Rattle.j39_claim.specs.declared.item.Item.TheVariants.{AddressClaimed, Request}
 use Rattle.j39_claim.specs.ClaimerValue.{ClaimerValue}
-use Rattle.j39_queues.specs.Queued.{Queued, room_at}
+use Rattle.j39_bus.specs.Queued.{Queued, room_at}
 use Rattle.j39_world.specs.World.{is_other_on}
 use Rattle.j39_bus.specs.Stations.{station_at}
 

@@ -1,7 +1,7 @@
 -- What is kept true of the messages that units send one another.
 use Rattle.std.specs.Prelude.{◌≡◌, ℕ, ◌<◌, ◌≤◌, true, false, List, [], ◌∷◌, ◌++◌, drop, length, Option, Some, None, All}
 use Rattle.j39_id.specs.Limits.{message_bytes}
-use Rattle.j39_queues.specs.Queued.{IsTable, Queued, room_at}
+use Rattle.j39_bus.specs.Queued.{IsTable, Queued, room_at}
 use Rattle.j39_network.specs.declared.plan.to.To.{To}
 use Rattle.j39_network.specs.declared.plan.to.To.TheVariants.{All as ToAll, One as ToOne}
 use Rattle.j39_tp.specs.declared.packet.Packet.{Packet}

@@ -27,7 +27,7 @@ use Rattle.j39_bus.specs.BusState.{BusState, Histories, session_at, world_of}
 use Rattle.j39_bus.specs.Reports.{reported_of}
 use Rattle.j39_bus.specs.Stands.{HoldTaken, IsPlannedBy}
 use Rattle.j39_bus.specs.inside.KeptMessages.{HasRoomTo, IsFlow, IsTraffic}
-use Rattle.j39_queues.specs.Queued.{IsTable, pair_in}
+use Rattle.j39_bus.specs.Queued.{IsTable, pair_in}
 
 abbrev pub planned_units : List ClaimerValue → List PlannedUnit
 planned_units cs = map (λ c. c.planned) cs

@@ -3,7 +3,7 @@ use Rattle.std.specs.Prelude.{◌≡◌, ℕ, ◌<◌, ◌≤◌, true, cond, Li
 use Rattle.std.specs.declared.alloc.Global.{Global}
 use Rattle.std.specs.declared.boxed.Box.{Box}
 use Rattle.std.specs.declared.vec.Vec.{Vec}
-use Rattle.j39_queues.specs.Queued.{IsTable}
+use Rattle.j39_bus.specs.Queued.{IsTable}
 use Rattle.j39_tp.specs.Packets.{is_announcement}
 use Rattle.j39_tp.specs.Receiver.{Receiving, completed_size, message_of}
 use Rattle.j39_tp.specs.declared.packet.Packet.{Packet}

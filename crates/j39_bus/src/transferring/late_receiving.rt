@@ -4,7 +4,7 @@ ghost use Rattle.j39_network.specs.declared.steps.Step.TheVariants.{LateReceiver
 ghost use Rattle.j39_bus.specs.BusState.{Histories};
 ghost use Rattle.j39_bus.specs.inside.Network.{HasHeld, IsAllowed, IsNetwork, IsSameNetwork, KeepsPlan, world_in};
 ghost use Rattle.j39_bus.specs.inside.Network.{Steps};
-ghost use Rattle.j39_queues.specs.Queued.{room_at};
+ghost use Rattle.j39_bus.specs.Queued.{room_at};
 ghost use Rattle.j39_world.specs.TransferSteps.{receiver_timed_out};
 
 use crate::network::Network;

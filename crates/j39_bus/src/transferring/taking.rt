@@ -2,7 +2,7 @@
 ghost use Rattle.std.specs.Prelude.{◌≡◌, ℕ, ◌+◌, ◌<◌, ◌≤◌, true, [], ◌∷◌, ◌++◌, drop, length, vec_len, vec_capacity};
 ghost use Rattle.std.specs.Prelude.{OnOk, OnErr, IfOk};
 ghost use Rattle.j39_network.specs.declared.steps.Step.TheVariants.{Take};
-ghost use Rattle.j39_queues.specs.Queued.{KeepsRoom, pair_in, room_at};
+ghost use Rattle.j39_bus.specs.Queued.{KeepsRoom, pair_in, room_at};
 ghost use Rattle.j39_tp.specs.Receiver.{is_complete};
 ghost use Rattle.j39_tp.specs.Carried.{Carried};
 ghost use Rattle.j39_bus.specs.BusState.{Histories};

@@ -1,6 +1,6 @@
 use Rattle.std.proofs.Common.{◌≡◌, ◌<◌, ℕ, true}
 use Rattle.std.specs.List.{list_all, range_with_len}
-use Rattle.j39_queues.specs.Queued.{pair_in}
+use Rattle.j39_bus.specs.Queued.{pair_in}
 use Rattle.j39_bus.specs.inside.Claims.{are_requests}
 use Rattle.j39_bus.proofs.claims.are_settled.Given as goal
 

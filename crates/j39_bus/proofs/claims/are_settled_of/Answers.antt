@@ -1,5 +1,5 @@
 use Rattle.std.proofs.Common.{ap, sym, ◌∙◌, arith}
-use Rattle.j39_queues.specs.Queued.{pair_in}
+use Rattle.j39_bus.specs.Queued.{pair_in}
 use Rattle.j39_bus.specs.inside.Claims.{are_requests}
 use Rattle.j39_bus.proofs.Rested.{all_below, not_below}
 use Rattle.j39_bus.proofs.claims.are_settled_of.Goals as goal

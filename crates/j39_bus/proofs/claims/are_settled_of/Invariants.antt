@@ -1,5 +1,5 @@
 use Rattle.std.proofs.Common.{◌≡◌, ◌<◌, ℕ, true}
-use Rattle.j39_queues.specs.Queued.{pair_in}
+use Rattle.j39_bus.specs.Queued.{pair_in}
 use Rattle.j39_bus.specs.inside.Claims.{are_requests}
 use Rattle.j39_bus.proofs.claims.are_settled_of.Given as goal
 

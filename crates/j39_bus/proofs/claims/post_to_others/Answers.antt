@@ -1,7 +1,7 @@
 use Rattle.std.proofs.Common.{◌≡◌, ◌+◌, ◌<◌, ℕ, Bool, true, false, eqb, length, refl, subst, sym, ◌∙◌, arith}
 use Rattle.std.proofs.lemmas.Bool.{and_right, eq-eqb, ne_eqb}
 use Rattle.j39_claim.specs.declared.item.Item.{Item}
-use Rattle.j39_queues.specs.Queued.{IsTable, Queued, pair_in}
+use Rattle.j39_bus.specs.Queued.{IsTable, Queued, pair_in}
 use Rattle.j39_world.specs.World.{is_other_on}
 use Rattle.j39_bus.specs.Stations.{station_at}
 use Rattle.j39_bus.proofs.Postings.{IsPosted, IsRoomLeft, posted_all, posted_more, posted_past, room_more, room_past}

@@ -1,5 +1,5 @@
 use Rattle.std.proofs.Common.{length}
-use Rattle.j39_queues.specs.Queued.{IsTable, pair_in}
+use Rattle.j39_bus.specs.Queued.{IsTable, pair_in}
 use Rattle.j39_world.specs.World.{is_other_on}
 use Rattle.j39_bus.specs.Stations.{station_at}
 use Rattle.j39_bus.proofs.Postings.{IsPosted, IsRoomLeft}

@@ -1,5 +1,5 @@
 use Rattle.std.proofs.Common.{◌≡◌, ◌<◌, ◌≤◌, ℕ, true}
-use Rattle.j39_queues.specs.Queued.{room_at}
+use Rattle.j39_bus.specs.Queued.{room_at}
 use Rattle.j39_world.specs.World.{is_other_on}
 use Rattle.j39_bus.specs.Stations.{station_at}
 use Rattle.j39_bus.proofs.claims.reserve_for_others.Given as goal

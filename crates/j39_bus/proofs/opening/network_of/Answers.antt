@@ -2,7 +2,7 @@ use Rattle.std.proofs.Common.{◌≡◌, List, [], length, map, refl, ap, sym, �
 use Rattle.std.proofs.lemmas.List.{length-map}
 use Rattle.j39_claim.specs.ClaimerValue.{ClaimerValue}
 use Rattle.j39_network.specs.declared.plan.unit_plan.UnitPlan.{UnitPlan}
-use Rattle.j39_queues.specs.Queued.{IsTable}
+use Rattle.j39_bus.specs.Queued.{IsTable}
 use Rattle.j39_bus.specs.BusState.{session_at}
 use Rattle.j39_bus.specs.Reports.{reported_of}
 use Rattle.j39_bus.specs.Stations.{station_at, unstarted}

@@ -1,7 +1,7 @@
 use Rattle.std.proofs.Common.{◌≡◌, ◌<◌, ◌∷◌, ◌+◌, [], ◌++◌, length, drop, get_or, ap, sym, ◌∙◌, subst, List, ℕ, suc, arith}
 use Rattle.std.proofs.Math.Seq.{drop-cons}
 use Rattle.std.proofs.lemmas.List.{drop_all}
-use Rattle.j39_queues.specs.Queued.{changed_in, pair_in}
+use Rattle.j39_bus.specs.Queued.{changed_in, pair_in}
 use Rattle.j39_bus.specs.inside.KeptMessages.{AreUnits, HasRoomTo}
 use Rattle.j39_world.specs.Transfers.{added}
 use Rattle.j39_bus.proofs.Wires.{added_first, added_none, as_table, room_for_rest, unit_inside, units_dropped}

@@ -1,5 +1,5 @@
 use Rattle.std.proofs.Common.{◌≡◌, length, drop}
-use Rattle.j39_queues.specs.Queued.{IsTable, pair_in}
+use Rattle.j39_bus.specs.Queued.{IsTable, pair_in}
 use Rattle.j39_bus.specs.inside.KeptMessages.{HasRoomTo}
 use Rattle.j39_world.specs.Transfers.{added}
 use Rattle.j39_bus.proofs.wire.post_each.Given as goal

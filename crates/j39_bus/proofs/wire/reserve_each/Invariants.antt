@@ -1,5 +1,5 @@
 use Rattle.std.proofs.Common.{◌≡◌, ◌<◌, ℕ, get_or}
-use Rattle.j39_queues.specs.Queued.{room_at}
+use Rattle.j39_bus.specs.Queued.{room_at}
 use Rattle.j39_bus.proofs.wire.reserve_each.Given as goal
 
 abbrev pub invariant-loop-target : goal.invariant-loop-target

@@ -1,7 +1,7 @@
 use Rattle.std.proofs.Common.{◌≡◌, ◌++◌, List, None, Some, map, refl, sym, subst}
-use Rattle.j39_full_variants.specs.LookedVariants.{HasTimes, IsLooking}
-use Rattle.j39_full_variants.specs.declared.looking.Looking.TheVariants.{Few, Many}
-use Rattle.j39_line_witness_laws.specs.ReportedByConditions.{ReportWhatVariantsHave}
+use Rattle.j39_line_check.specs.LookedVariants.{HasTimes, IsLooking}
+use Rattle.j39_line_check.specs.declared.looking.Looking.TheVariants.{Few, Many}
+use Rattle.j39_line_laws.specs.ReportedByConditions.{ReportWhatVariantsHave}
 use Rattle.j39_line_check.proofs.ReportedOfLine.{reported_of_few, reported_of_many}
 use Rattle.j39_line_check.specs.inside.AddedFindings.{AreAdded, Pair, pair_counted, pair_of_condition}
 use Rattle.j39_line_check.proofs.check.found_of.Goals as goal

@@ -13,7 +13,7 @@ use Rattle.j39_line_findings.specs.MissedNeeds.{is_need_missed}
 use Rattle.j39_line_findings.specs.There.{missed_needs}
 use Rattle.j39_line_findings.specs.declared.line_finding.LineFinding.TheVariants.{OfPlan, OfLoad}
 use Rattle.j39_line_check.specs.LineChecks.{HasNothing}
-use Rattle.j39_line_part_laws.proofs.VariantsExist.{some_plan, some_there}
+use Rattle.j39_line_laws.proofs.VariantsExist.{some_plan, some_there}
 use Rattle.j39_part_laws.proofs.LoadsExist.{some_load_findings}
 use Rattle.j39_line_text.proofs.CertifiedVariants.{none_made, none_of_both, none_passes}
 use Rattle.j39_line_text.proofs.certificate.variants_without_findings_are_certified.Goals as goal

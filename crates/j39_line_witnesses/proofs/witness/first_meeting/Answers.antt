@@ -4,9 +4,9 @@ use Rattle.j39_line_witnesses.specs.PartBoxes.{holes_of_parts, parts_box}
 use Rattle.j39_line_witnesses.proofs.Meeting.{kept_boxes, none_unknown, witness_by}
 use Rattle.j39_line_witnesses.proofs.witness.first_meeting.Goals as goal
 
-pub returns-then-not-are_parts_known-clause-first : goal.returns-then-not-are_parts_known-clause-first
-returns-then-not-are_parts_known-clause-first c =
-    none_unknown c.args.line.now c.args.condition.now (rw c.deref.ensures.value at (sym c.are_parts_known.ensures ∙ c.if-not-are_parts_known.true))
+pub returns-then-not-names_known_choices-clause-first : goal.returns-then-not-names_known_choices-clause-first
+returns-then-not-names_known_choices-clause-first c =
+    none_unknown c.args.line.now c.args.condition.now (rw c.deref.ensures.value at (sym c.names_known_choices.ensures ∙ c.if-not-names_known_choices.true))
 
 pub returns-clause-kept : goal.returns-clause-kept
 returns-clause-kept c =
@@ -18,7 +18,7 @@ returns-clause-kept c =
 pub returns-clause-first : goal.returns-clause-first
 returns-clause-first c =
     let line = c.args.line.now in
-    witness_by line c.args.condition.now (rw c.deref.ensures.value at (sym c.are_parts_known.ensures ∙ c.if-not-are_parts_known.false)) c.in_ok-found.found
+    witness_by line c.args.condition.now (rw c.deref.ensures.value at (sym c.names_known_choices.ensures ∙ c.if-not-names_known_choices.false)) c.in_ok-found.found
     (box_flags c.deref-4.result.now) (boxes_flags c.deref-5.result.now)
     (ap box_flags c.deref-4.ensures.value ∙ c.in_ok-within.ensures ∙ ap (parts_box line) c.deref-2.ensures.value)
     (ap boxes_flags c.deref-5.ensures.value ∙ c.in_ok-add_holes.ensures ∙ (rw (c.requires, c.deref-3.ensures.value) refl))

@@ -1,6 +1,6 @@
 use Rattle.std.proofs.Common.{[], subst}
 use Rattle.j39_vehicle.specs.declared.vehicle.Vehicle.{Vehicle}
-use Rattle.j39_vehicle_time_laws.specs.VehicleAges.{IsSoundVehicle}
+use Rattle.j39_vehicle_laws.specs.VehicleAges.{IsSoundVehicle}
 use Rattle.j39_vehicle_times.specs.TimeFindings.{AreTimeFindings}
 use Rattle.j39_vehicle_findings.specs.FoundPaths.{vehicle_findings}
 use Rattle.j39_vehicle_findings.specs.VehicleFindings.{AreFindings}

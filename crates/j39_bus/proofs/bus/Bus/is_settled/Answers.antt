@@ -1,6 +1,6 @@
 use Rattle.std.proofs.Common.{◌≡◌, ap, sym, subst}
 use Rattle.j39_bus.specs.BusState.{undelivered}
-use Rattle.j39_queues.specs.Queued.{pair_in}
+use Rattle.j39_bus.specs.Queued.{pair_in}
 use Rattle.j39_world.specs.Sound.{IsQuiet}
 use Rattle.j39_bus.proofs.Settled.{settled}
 use Rattle.j39_bus.proofs.bus.Bus.is_settled.Goals as goal

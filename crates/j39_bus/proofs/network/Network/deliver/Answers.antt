@@ -1,7 +1,7 @@
 use Rattle.std.proofs.Common.{◌≡◌, ℕ, ◌<◌, true, List, length, map, get_or, ap, sym, ◌∙◌, Some, None, refl, subst}
 use Rattle.std.proofs.Math.ListN.{length-set}
 use Rattle.j39_claim.specs.ClaimerValue.{ClaimerValue, can_note}
-use Rattle.j39_queues.specs.Queued.{pair_in}
+use Rattle.j39_bus.specs.Queued.{pair_in}
 use Rattle.j39_world.specs.Sent.{sent_of}
 use Rattle.j39_bus.specs.Stations.{absent_unit, station_at}
 use Rattle.j39_bus.specs.inside.Network.{world_in, planned_units, has_unit_named, IsWellFormed}

@@ -1,7 +1,7 @@
 use Rattle.std.proofs.Common.{subst, ap}
 use Rattle.j39_network.specs.declared.steps.Step.TheVariants.{Give}
 use Rattle.j39_world.specs.ClaimSteps.{GivenFrom}
-use Rattle.j39_queues.specs.Queued.{pair_in}
+use Rattle.j39_bus.specs.Queued.{pair_in}
 use Rattle.j39_bus.specs.inside.Network.{world_in}
 use Rattle.j39_bus.specs.declared.network.Network.{Network}
 use Rattle.j39_bus.proofs.Steady.{plan_kept, plan_same, steps_after, steps_same}

@@ -7,7 +7,7 @@ use Rattle.j39_bus.specs.declared.network.Network.{Network}
 use Rattle.j39_bus.proofs.Steady.{stated_traffic, wired_traffic}
 use Rattle.j39_bus.proofs.WellFormed.{well_on, well_stated}
 use Rattle.j39_bus.proofs.SwitchedOn.{planned_units_on, on_planned_unit, switched}
-use Rattle.j39_queues.specs.Queued.{pair_in}
+use Rattle.j39_bus.specs.Queued.{pair_in}
 use Rattle.j39_bus.specs.inside.Network.{planned_units, world_in}
 use Rattle.j39_bus.specs.inside.KeptMessages.{IsTraffic}
 use Rattle.j39_bus.proofs.Worlds.{stated_nothing, world}

@@ -1,6 +1,6 @@
 use Rattle.std.proofs.Common.{subst, List, ℕ}
 use Rattle.std.proofs.lemmas.Result.{on_ok_weaker}
-use Rattle.j39_queues.specs.Queued.{pair_in}
+use Rattle.j39_bus.specs.Queued.{pair_in}
 use Rattle.j39_bus.specs.inside.Network.{TakesOldest, world_in}
 use Rattle.j39_world.specs.TransferSteps.{TakenFrom}
 use Rattle.j39_bus.proofs.network.Network.take.Goals as goal

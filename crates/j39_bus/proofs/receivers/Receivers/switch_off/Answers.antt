@@ -1,5 +1,5 @@
 use Rattle.std.proofs.Common.{◌+◌, length, refl, ap, arith, ◌∙◌, ◌||◌, eqb}
-use Rattle.j39_queues.proofs.Columns.{IsCleared, cleared_all, cleared_more, in_row_or_column, next_in_either, or_at, whole_row_and_column}
+use Rattle.j39_bus.proofs.Columns.{IsCleared, cleared_all, cleared_more, in_row_or_column, next_in_either, or_at, whole_row_and_column}
 use Rattle.j39_bus.specs.BusState.{ReceiverTable, closed, holding_at}
 use Rattle.j39_bus.proofs.ReceiverRows.{table_seen}
 use Rattle.j39_bus.proofs.receivers.Receivers.switch_off.Goals as goal

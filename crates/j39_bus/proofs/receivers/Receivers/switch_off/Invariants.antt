@@ -1,5 +1,5 @@
 use Rattle.std.proofs.Common.{◌≡◌}
-use Rattle.j39_queues.proofs.Columns.{IsCleared, in_row_or_column}
+use Rattle.j39_bus.proofs.Columns.{IsCleared, in_row_or_column}
 use Rattle.j39_bus.specs.BusState.{closed, holding_at}
 use Rattle.j39_bus.proofs.receivers.Receivers.switch_off.Given as goal
 

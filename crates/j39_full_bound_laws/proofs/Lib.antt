@@ -1,6 +1,0 @@
-mod Badness
-mod FilePlaces
-mod FlowTimes
-mod NeedTimes
-mod Staying
-mod TimesOfFull

@@ -1,2 +1,0 @@
-pub mod StayingOfFull
-pub mod TimesOfFull

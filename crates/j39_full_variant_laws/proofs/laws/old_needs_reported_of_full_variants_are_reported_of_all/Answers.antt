@@ -1,5 +1,0 @@
-use Rattle.j39_full_variant_laws.proofs.OldNeeds.{old_reported}
-use Rattle.j39_full_variant_laws.proofs.laws.old_needs_reported_of_full_variants_are_reported_of_all.Goals as goal
-
-pub returns : goal.returns
-returns c = old_reported

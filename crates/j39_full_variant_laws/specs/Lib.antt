@@ -1,4 +1,0 @@
-pub mod FoundOfFull
-pub mod FullForNeeds
-pub mod OldNeeds
-pub mod WithoutNevers

@@ -1,5 +1,0 @@
-use Rattle.j39_full_variants.proofs.NeedLists.{all_looked_at}
-use Rattle.j39_full_variants.proofs.laws.full_variants_are_looked_at.Goals as goal
-
-pub returns : goal.returns
-returns c = all_looked_at

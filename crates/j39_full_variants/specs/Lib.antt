@@ -1,6 +1,0 @@
-pub mod CountedFindings
-pub mod FullSets
-pub mod LookedAtLaws
-pub mod LookedVariants
-pub mod SetVariantLaws
-pub mod SetVariants

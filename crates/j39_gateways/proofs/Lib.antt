@@ -1,4 +1,0 @@
-pub mod Clocks
-pub mod Gateways
-pub mod Vehicles
-pub mod KnownVehicle

@@ -1,6 +1,0 @@
-use Rattle.std.proofs.Common.{refl}
-use Rattle.j39_gateways.proofs.KnownVehicle.{vehicle, known}
-use Rattle.j39_gateways.proofs.laws.a_frame_is_handed_on.Goals as goal
-
-pub returns : goal.returns
-returns c = (vehicle, known, refl, refl, refl, refl, refl, refl, refl)

@@ -1,5 +1,0 @@
-use Rattle.j39_gateways.proofs.Gateways.{keeps_to_stream}
-use Rattle.j39_gateways.proofs.laws.forwarded_frames_keep_to_their_streams.Goals as goal
-
-pub returns : goal.returns
-returns c = record { keeps = keeps_to_stream }

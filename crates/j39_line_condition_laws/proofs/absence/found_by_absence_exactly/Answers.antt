@@ -1,5 +1,0 @@
-use Rattle.j39_line_condition_laws.proofs.AbsenceFound.{exactly}
-use Rattle.j39_line_condition_laws.proofs.absence.found_by_absence_exactly.Goals as goal
-
-pub returns : goal.returns
-returns c = exactly

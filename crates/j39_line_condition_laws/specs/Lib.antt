@@ -1,4 +1,0 @@
-pub mod ByAbsenceExactly
-pub mod ByConditions
-pub mod ByPresence
-pub mod BoxedParts

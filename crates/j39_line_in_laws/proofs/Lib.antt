@@ -1,5 +1,0 @@
-mod AskedKept
-mod KeptConditions
-mod TakenReported
-mod ReportedLaws
-mod ReportedOfLines

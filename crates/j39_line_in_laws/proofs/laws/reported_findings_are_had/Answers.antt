@@ -1,5 +1,0 @@
-use Rattle.j39_line_in_laws.proofs.ReportedOfLines.{reported_of_line_is_had}
-use Rattle.j39_line_in_laws.proofs.laws.reported_findings_are_had.Goals as goal
-
-pub returns : goal.returns
-returns c = reported_of_line_is_had

@@ -1,5 +1,0 @@
-use Rattle.j39_line_in_laws.proofs.ReportedLaws.{reported_leads}
-use Rattle.j39_line_in_laws.proofs.laws.what_is_reported_leads_to_witnesses.Goals as goal
-
-pub returns : goal.returns
-returns c = reported_leads

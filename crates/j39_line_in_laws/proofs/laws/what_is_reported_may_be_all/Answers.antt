@@ -1,5 +1,0 @@
-use Rattle.j39_line_in_laws.proofs.ReportedLaws.{reported_may_be_all}
-use Rattle.j39_line_in_laws.proofs.laws.what_is_reported_may_be_all.Goals as goal
-
-pub returns : goal.returns
-returns c = reported_may_be_all

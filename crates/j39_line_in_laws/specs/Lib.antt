@@ -1,2 +1,0 @@
-pub mod ReportedConditions
-pub mod ReportedOfLines

@@ -1,0 +1,13 @@
+pub mod Covering
+pub mod FoundOfCovering
+pub mod ByAbsenceExactly
+pub mod ByConditions
+pub mod ByPresence
+pub mod BoxedParts
+pub mod ReportedByConditions
+pub mod FoundOfFull
+pub mod FullForNeeds
+pub mod OldNeeds
+pub mod WithoutNevers
+pub mod StayingOfFull
+pub mod TimesOfFull

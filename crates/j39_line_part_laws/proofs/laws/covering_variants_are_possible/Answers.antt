@@ -1,5 +1,0 @@
-use Rattle.j39_line_part_laws.proofs.Possible.{possible_too}
-use Rattle.j39_line_part_laws.proofs.laws.covering_variants_are_possible.Goals as goal
-
-pub returns : goal.returns
-returns c = possible_too

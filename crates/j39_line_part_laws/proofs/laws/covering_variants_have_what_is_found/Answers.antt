@@ -1,5 +1,0 @@
-use Rattle.j39_line_part_laws.proofs.FoundOfCovering.{are_found}
-use Rattle.j39_line_part_laws.proofs.laws.covering_variants_have_what_is_found.Goals as goal
-
-pub returns : goal.returns
-returns c line v w here there covered of_here of_there = are_found line v w covered here there of_here of_there

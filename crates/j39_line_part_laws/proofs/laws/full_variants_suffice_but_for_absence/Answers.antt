@@ -1,5 +1,0 @@
-use Rattle.j39_line_part_laws.proofs.Suffices.{full_suffice}
-use Rattle.j39_line_part_laws.proofs.laws.full_variants_suffice_but_for_absence.Goals as goal
-
-pub returns : goal.returns
-returns c = full_suffice

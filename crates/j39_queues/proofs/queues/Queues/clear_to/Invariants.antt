@@ -1,5 +1,0 @@
-use Rattle.j39_queues.proofs.Columns.{AreDropped, in_column}
-use Rattle.j39_queues.proofs.queues.Queues.clear_to.Given as goal
-
-abbrev pub invariant-loop-from : goal.invariant-loop-from
-invariant-loop-from g l = AreDropped (in_column l.to l.from) l.fn.self l.self

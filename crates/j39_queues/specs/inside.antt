@@ -1,2 +1,0 @@
--- What only proofs need.
-pub mod Rows

@@ -1,5 +1,0 @@
-use Rattle.j39_vehicle_time_laws.proofs.Kept.{streams_are_kept}
-use Rattle.j39_vehicle_time_laws.proofs.laws.gateways_keep_to_plans.Goals as goal
-
-pub returns : goal.returns
-returns c = streams_are_kept
