@@ -32,8 +32,9 @@ def random_plan(dice: random.Random) -> Plan:
     groups = [Group("G1", 61444, 3, 8, 8), Group("G2", 65260, 6, 18, 18), Group("G3", 0, 6, 8, 8), Group("G4", 65100, 6, 4, 12)]
     flows = [Flow(0, 0, None, 10, dice.choice([20, 25]), dice.choice([0, 2])), Flow(1, 0, None, 100, 200), Flow(2, 0, 2, 10, 30, dice.choice([0, 3])),
              Flow(2, 0, 3, 10, 40), Flow(3, 1, None, 10, 15), Flow(2, 2, 0, 10, 15), Flow(0, 1, None, 20, dice.choice([None, 20]), 5)]
-    requests = [Request(0, 1, 0, 100), Request(2, 3, 0, 50), Request(1, 2, None, None), Request(2, 0, 2, 20)]
+    requests = [Request(0, 1, 0, dice.choice([10, 9, 100])), Request(0, 2, None, 50), Request(2, 3, 0, 50), Request(1, 2, None, None), Request(2, 0, 2, 20), Request(1, 4, 0, 200)]
     asked = [it for it in requests if dice.random() < 0.3]
+    flows = [it._replace(is_asked=dice.random() < 0.2, period=dice.choice([it.period] * 3 + [500])) for it in flows]
     return Plan(units, groups, flows, asked, dice.choice([0, 0, 500, 20000]), dice.choice([None, None, (1, 50), (3, 100)]))
 
 

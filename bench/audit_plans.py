@@ -37,7 +37,7 @@ class Group(NamedTuple):
 
 
 class Flow(NamedTuple):
-    """A flow by the places of its group and its units, to all where `to` is None. Times are in milliseconds."""
+    """A flow by the places of its group and its units, to all where `to` is None; `is_asked`: on request. Times are in milliseconds."""
 
     group: int
     sender: int
@@ -45,6 +45,7 @@ class Flow(NamedTuple):
     period: int
     pause: int | None
     jitter: int = 0
+    is_asked: bool = False
 
 
 class Request(NamedTuple):
@@ -81,7 +82,7 @@ class Plan(NamedTuple):
         for flow in self.flows:
             lines += ["[[flow]]", f'group = "{self.groups[flow.group].label}"', f'from = "{self.units[flow.sender].label}"']
             lines += [f'to = "{self.receiver(flow)}"', f"period = {flow.period}", f"jitter = {flow.jitter}"]
-            lines += [f"pause = {flow.pause}"] if flow.pause else []
+            lines += ([f"pause = {flow.pause}"] if flow.pause else []) + (["on_request = true"] if flow.is_asked else [])
         for request in self.requests:
             lines += ["[[request]]", f'group = "{self.groups[request.group].label}"', f'from = "{self.units[request.sender].label}"']
             lines += [f'to = "{self.receiver(request)}"', *([f"period = {request.period}"] if request.period else [])]

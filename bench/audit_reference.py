@@ -9,6 +9,7 @@ from audit_plans import ALL, CLAIM, CLAIMS_ASKED, FRAME_BYTES, NULL, PACKETS, PO
 
 BIT = 4
 LONGEST_ANSWER_MS, LONGEST_REPLY_MS = 250, 1250
+ANSWERED_WITHIN_MS = 250
 GAP_MS, LONGEST_GAP_MS = 50, 200
 LEAST_QUIET_MS, MOST_QUIET_MS = 100, 1000
 # The fewest bits of a frame of no bytes, with those behind it; each byte has eight more.
@@ -101,21 +102,36 @@ class Reference:
     def shortest(self, ms: int) -> int:
         return 999 * ms * (SECOND - self.plan.drift) // SECOND
 
+    def askers(self, flow: Flow) -> list[int]:
+        """The periods of the requests that a flow on request serves."""
+        return [it.period for it in self.plan.requests if it.period and flow.is_asked and it.group == flow.group and it.sender != flow.sender
+                and it.to in (None, flow.sender) and flow.to in (None, it.sender)]
+
+    def is_crowded(self, flow: Flow) -> bool:
+        """Whether two of its messages may come at once: several requests ask for it, or one sooner than each of its periods."""
+        askers = self.askers(flow)
+        return len(askers) > 1 or any(every < flow.period for every in askers)
+
+    def queued_within(self, flow: Flow) -> int:
+        """Within how many milliseconds of its moment a message is queued: that of its request, where it answers one."""
+        return max(flow.jitter, ANSWERED_WITHIN_MS) if self.askers(flow) else flow.jitter
+
     def jitter(self, flow: Flow) -> int:
-        return self.longest(flow.jitter + (0 if self.plan.groups[flow.group].most <= FRAME_BYTES else flow.period))
+        return self.longest(self.queued_within(flow) + (0 if self.plan.groups[flow.group].most <= FRAME_BYTES else flow.period))
 
     def pause(self, flow: Flow) -> int | None:
         """How long the pause is of a flow that is judged."""
         group, ends = self.plan.groups[flow.group], [flow.sender] + ([] if flow.to is None else [flow.to])
         is_judged = not self.is_part and group.most <= FRAME_BYTES and all(self.plan.units[end].claims for end in ends)
-        return self.longest(flow.pause) if flow.pause and is_judged else None
+        return self.longest(flow.pause) if flow.pause and is_judged and not flow.is_asked else None
 
     def lower(self, bound: str, place: int, idle: int | None, time: int) -> int | None:
         """No message of a flow had its moment before this, if it comes at this idle mark, or at this time."""
         if bound == BY_BUS:
             return None if idle is None else idle - self.jitter(self.plan.flows[place])
-        response = self.responses.get(place)
-        return None if response is None else time - self.stamps - (response + response // 1000 + 1)
+        response, flow = self.responses.get(place), self.plan.flows[place]
+        later = self.longest(self.queued_within(flow) - flow.jitter)
+        return None if response is None else time - self.stamps - (response + response // 1000 + 1 + later)
 
     def tell(self, word: str, place: int, line: int, by: int) -> None:
         self.told.setdefault((word, place), []).append((line, by))
@@ -373,7 +389,7 @@ class Reference:
 
     def take_bounds(self, bound: str, line: int, place: int, lower: int | None, upper: int, is_besides: bool) -> None:
         flow, key = self.plan.flows[place], (bound, place)
-        if not is_besides:
+        if not is_besides and not self.is_crowded(flow):
             self.take_step(f"near{bound} flow", key, place, line, upper, lower, self.shortest(flow.period))
         pause = self.pause(flow)
         if pause is None:

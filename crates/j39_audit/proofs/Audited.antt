@@ -3,8 +3,10 @@ use Rattle.std.proofs.Common.{◌≡◌, ℕ, List, Bool, true, false, cond, Opt
 use Rattle.j39_id.specs.Lines.{lines}
 use Rattle.j39_log.specs.declared.line_counts.LineCounts.{LineCounts}
 use Rattle.j39_stream.specs.declared.verdict.Verdict.{Verdict}
-use Rattle.j39_audit.specs.AuditText.{IsAudit, IsAuditedLog, Look, AuditPast, accusation_count, counts_of, is_of_asking, is_of_broadcasts, is_of_moments}
-use Rattle.j39_audit.specs.AuditText.{log_ended, look_at, text_by, verdict_by, is_of_load, mark_by_bus}
+use Rattle.j39_audit.specs.AuditPasts.{AuditPast}
+use Rattle.j39_audit.specs.AuditText.{IsAudit, IsAuditedLog, Look, accusation_count, counts_of, is_of_asking, is_of_broadcasts, is_of_moments}
+use Rattle.j39_audit.specs.AuditPasts.{log_ended}
+use Rattle.j39_audit.specs.AuditText.{look_at, text_by, verdict_by, is_of_load, mark_by_bus}
 use Rattle.j39_audit.specs.Counting.{key_of}
 use Rattle.j39_audit.specs.Gaps.{quiet_by}
 use Rattle.j39_audit.specs.Responses.{AreResponses}

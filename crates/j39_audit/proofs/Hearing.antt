@@ -15,7 +15,7 @@ use Rattle.j39_id.specs.declared.line_error.LineError.TheVariants.{Empty, NoHash
 use Rattle.j39_log.specs.declared.line_counts.LineCounts.{LineCounts}
 use Rattle.j39_log.specs.LineCounting.{AreWithin, IsLineMore}
 use Rattle.j39_tp.specs.declared.packet.Packet.{Packet}
-use Rattle.j39_audit.specs.AuditText.{AuditPast, AuditsLine, AuditsLines, AuditsPart, AuditsShort, passed_by, past_again, past_with_frame, with_next_number}
+use Rattle.j39_audit.specs.AuditPasts.{AuditPast, AuditsLine, AuditsLines, AuditsPart, AuditsShort, passed_by, past_again, past_with_frame, with_next_number}
 use Rattle.j39_audit.specs.Settings.{Settings}
 use Rattle.j39_audit.specs.declared.again.TakenFrame.{TakenFrame}
 use Rattle.j39_audit.specs.declared.audit_log.AuditLog.{AuditLog}

@@ -8,6 +8,7 @@ pub mod Keeping
 pub mod Knowing
 pub mod Noting
 pub mod Pausing
+pub mod QueueTimes
 pub mod Sending
 pub mod Singling
 pub mod Writing

@@ -1,5 +1,6 @@
 pub mod Again
 pub mod Asking
+pub mod AuditPasts
 pub mod AuditText
 pub mod BegunBroadcasts
 pub mod Below
@@ -12,6 +13,7 @@ pub mod MessageStreams
 pub mod Moments
 pub mod Near
 pub mod Pauses
+pub mod QueueTimes
 pub mod Requests
 pub mod Responses
 pub mod SentMessages

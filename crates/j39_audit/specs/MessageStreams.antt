@@ -1,5 +1,5 @@
 -- Streams: messages whose moments are a step apart at least, and how long behind its moment one may be queued, or sent.
-use Rattle.std.specs.Prelude.{ℕ, ◌+◌, nat_le, nat_lt, ◌==◌, ◌&&◌, not, Bool, true, false, if◌then◌else◌, List, [], ◌∷◌, Option, Some, None}
+use Rattle.std.specs.Prelude.{ℕ, ◌+◌, ◌-◌, nat_le, nat_lt, ◌==◌, ◌&&◌, not, Bool, true, false, if◌then◌else◌, List, [], ◌∷◌, Option, Some, None}
 use Rattle.std.specs.List.{slice_get}
 use Rattle.std.specs.Option.{option_and_then, option_map}
 use Rattle.j39_id.specs.Ident.{pgn_of}
@@ -14,6 +14,7 @@ use Rattle.j39_network.specs.declared.plan.request_plan.RequestPlan.{RequestPlan
 use Rattle.j39_network.specs.declared.plan.timing.Timing.{Timing}
 use Rattle.j39_audit.specs.Counting.{Noted}
 use Rattle.j39_audit.specs.Looking.{is_claiming, is_single}
+use Rattle.j39_audit.specs.QueueTimes.{queue_time_of}
 use Rattle.j39_audit.specs.Settings.{Settings, response_of}
 use Rattle.j39_audit.specs.UnitTimes.{longest_us, shortest_us}
 use Rattle.j39_audit.specs.declared.by_load.Bound.{Bound}
@@ -30,30 +31,34 @@ use Rattle.j39_audit.specs.declared.tally.Sighting.{Sighting}
 abbrev pub stream_mark : Word → ℕ → Mark
 stream_mark word place = record { word = word; subject = place; group = 0 }
 
--- a message of one frame is queued within the jitter, and one of several is announced within a period more
-abbrev pub queued_within_ms : Pace → Bool → ℕ
-queued_within_ms pace true = pace.jitter
-queued_within_ms pace false = pace.period + pace.jitter
+-- a message of one frame is queued within its time, and one of several is announced within a period more
+abbrev pub queued_within_ms : Pace → ℕ → Bool → ℕ
+queued_within_ms pace time true = time
+queued_within_ms pace time false = pace.period + time
 
 -- the messages of a stream are a flow's single frames where its group has none that are longer than a frame, else what announces them
 abbrev pub is_in_stream : GroupPlan → Bool → Bool
 is_in_stream group true = nat_le group.most frame_bytes
 is_in_stream group false = nat_lt frame_bytes group.most
 
--- how far behind its moment lies what bounds it at most, where that is known: by the bus it is queued within the jitter, and by load sent in its
+-- how far behind its moment lies what bounds it at most, where that is known: by the bus it is queued within its time, and by load sent in its
 -- response time
 abbrev pub slack_by : Bound → Option ℕ → ℕ → Option ℕ
-slack_by Bus response jitter = Some jitter
-slack_by Load response jitter = response
+slack_by Bus response queued = Some queued
+slack_by Load response queued = response
 
--- the stream of a flow with a period
-abbrev pub paced_stream : Settings → Timing → Frame → ℕ → GroupPlan → Pace → Option ℕ → Option MessageStream
-paced_stream s t f n group pace pause =
+-- a response time counts from a moment at most the jitter before the message is queued; where this may be queued later, so may it be sent
+abbrev pub sent_within : Settings → Timing → ℕ → Pace → ℕ → Option ℕ
+sent_within s t n pace time = option_map (λ d. d + longest_us t (time - pace.jitter)) (response_of s n)
+
+-- the stream of a flow with a period, whose messages are queued within this time
+abbrev pub paced_stream : Settings → Timing → Frame → ℕ → GroupPlan → Pace → ℕ → Option ℕ → Option MessageStream
+paced_stream s t f n group pace time pause =
     if is_in_stream group (is_single (pgn_of f.ident))
     then Some (record {
       mark = stream_mark NearFlow n;
       step = shortest_us t pace.period;
-      slack = slack_by s.bound (response_of s n) (longest_us t (queued_within_ms pace (is_single (pgn_of f.ident))));
+      slack = slack_by s.bound (sent_within s t n pace time) (longest_us t (queued_within_ms pace time (is_single (pgn_of f.ident))));
       pause = pause;
     })
     else None
@@ -95,7 +100,8 @@ stream_pause s t n = option_map (λ (p : FlowPause). p.pause) (flow_pause s t n)
 
 unfoldable pub flow_stream : Settings → Timing → Frame → ℕ → Option MessageStream
 flow_stream s t f n =
-    option_and_then (λ (pace : Pace). option_and_then (λ (group : GroupPlan). paced_stream s t f n group pace (stream_pause s t n)) (group_in_flow s n)) (flow_pace s n)
+    option_and_then (λ (pace : Pace). option_and_then (λ (group : GroupPlan). option_and_then (λ (time : ℕ).
+    paced_stream s t f n group pace time (stream_pause s t n)) (queue_time_of s.plan n)) (group_in_flow s n)) (flow_pace s n)
 
 -- requests have this priority
 abbrev pub request_priority : ℕ

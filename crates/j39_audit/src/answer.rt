@@ -13,6 +13,7 @@ use crate::audit_log::AuditLog;
 use crate::basis::{Basis, moving_of, sent_of};
 use crate::by_load::{Bound, responses_of};
 use crate::gaps::quiet_by;
+use crate::queue_times::queue_times_of;
 use crate::reading::read_log;
 use crate::summary::write_audit;
 use j39_network::Plan;
@@ -81,6 +82,7 @@ pub fn audit_text<S: Source, W: Sink>(
     let moving = moving_of(alloc, plan)?;
     let sent = sent_of(alloc, plan)?;
     let responses = responses_of(alloc, plan)?;
+    let queue_times = queue_times_of(alloc, plan)?;
     let basis = Basis {
         plan,
         moving: &moving,
@@ -89,6 +91,7 @@ pub fn audit_text<S: Source, W: Sink>(
         stamps,
         quiet: quiet_by(plan, quiet),
         responses: &responses,
+        queue_times: &queue_times,
         bound: Bound::Bus,
     };
     audit_by(alloc, basis, quiet, source, sink)

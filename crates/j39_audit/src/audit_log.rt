@@ -3,22 +3,19 @@ ghost use Rattle.std.specs.Prelude.{◌≡◌, ◌≤◌, ◌<◌, ◌^◌, ◌+
 ghost use Rattle.std.specs.Option.{option_copied};
 ghost use Rattle.j39_id.specs.Lines.{Line, yields};
 ghost use Rattle.j39_log.specs.LineCounting.{AreWithin, IsLineMore};
-ghost use Rattle.j39_audit.specs.AuditText.{AuditPast, bad_line, is_of_asking, is_of_broadcasts, is_of_load};
-ghost use Rattle.j39_audit.specs.AuditText.{is_of_moments, mark_by_bus, passed_by, past_again, past_with_again};
-ghost use Rattle.j39_audit.specs.AuditText.{skipped_line, with_again};
-ghost use Rattle.j39_audit.specs.BegunBroadcasts.{BegunBroadcasts as SomeBroadcasts, broadcasts_behind, packet_with};
-ghost use Rattle.j39_audit.specs.Claiming.{HeardClaims, broken_off};
+ghost use Rattle.j39_audit.specs.AuditPasts.{AuditPast, bad_line};
+ghost use Rattle.j39_audit.specs.AuditText.{is_of_asking, is_of_broadcasts, is_of_load};
+ghost use Rattle.j39_audit.specs.AuditPasts.{passed_by, past_again, past_with_again};
+ghost use Rattle.j39_audit.specs.AuditText.{is_of_moments, mark_by_bus};
+ghost use Rattle.j39_audit.specs.AuditPasts.{skipped_line, with_again};
 ghost use Rattle.j39_audit.specs.Counting.{Noted};
-ghost use Rattle.j39_audit.specs.Looking.{break_noted};
 ghost use Rattle.j39_audit.specs.MessageStreams.{nothing_sighted, sighted_behind};
-ghost use Rattle.j39_audit.specs.Moments.{Moments as SomeMoments, with_packet_stream};
 ghost use Rattle.j39_audit.specs.Pauses.{unclear_behind};
 ghost use Rattle.j39_audit.specs.Settings.{Settings};
 ghost use Rattle.j39_audit.specs.inside.Auditing.{AccordsWith, AreAllNear, HasAudited, FollowsNewFrame};
 ghost use Rattle.j39_audit.specs.inside.Auditing.{HasAuditedWhole, IsWithinLines, RecallsAudit, TakesFrameLine};
 ghost use Rattle.j39_audit.specs.inside.Auditing.{TakesFrameNew, TakesLine};
 ghost use Rattle.j39_audit.specs.inside.Auditing.{AreOnlyTimesNew, RecallsTimes, tallied, times_behind};
-ghost use Rattle.j39_audit.specs.inside.Recalling.{AreNear, KnowsClaims, Notes, RecallsBroadcasts, RecallsMoments};
 ghost use Rattle.j39_audit.specs.inside.Recalling.{known_by, settings_of};
 
 use crate::again::{TakenFrame, is_again, taken_frame};
@@ -29,11 +26,13 @@ use crate::broadcasts::BegunBroadcasts;
 use crate::frame_marks::{note_if, take_frame};
 use crate::gaps::ends_gap;
 use crate::known::Known;
+use crate::log_steps::{take_break, take_packet};
 use crate::mark::{Mark, Word, make_mark};
 use crate::moments::{Moments, Seen};
 use crate::pauses::{Ending, ending_of};
 use crate::tally::{MarkTally, Occurrences};
 use crate::times::{begins_anew, breaks, line_time, newest_behind};
+use crate::word_sorts::{is_of_asking, is_of_broadcasts, is_of_load, is_of_moments, mark_by_bus};
 use j39_follow::{interface, is_elsewhere, keep_interface, kept_interface, read_part, time_text};
 use j39_id::{Cut, Frame, LineError, read_frame};
 use j39_log::{LineCounts, transport_packet};
@@ -64,112 +63,11 @@ pub(crate) struct AuditLog<'a> {
     pub counts: LineCounts,
 }
 
-// Notes that the log breaks off, where it does, and forgets where units stood that may have moved.
-fn take_break(
-    tally: &mut MarkTally,
-    basis: &Basis<'_>,
-    known: &mut Known,
-    line: u64,
-    broken: bool,
-) -> Result<(), AllocError>
-    ensures known { (claims : HeardClaims) → KnowsClaims (settings_of basis.now) known.old claims
-        → KnowsClaims (settings_of basis.now) known.new (broken_off broken claims) }
-    ensures noted { OnOk result (Notes tally.old tally.new (break_noted line broken)) }
-{
-    if broken {
-        known.break_off(basis);
-        tally.note(make_mark(Word::Break, 0), line, 0)
-    } else {
-        Ok(())
-    }
-}
-
 // Whether a frame was read.
 fn has_frames(counts: &LineCounts) -> bool
     ensures { result ≡ nat_lt 0 counts.now.frames }
 {
     counts.frames > 0
-}
-
-// Whether a word speaks of times.
-fn is_of_moments(word: Word) -> bool
-    ensures { result ≡ is_of_moments word }
-{
-    matches!(
-        word,
-        Word::NearFlow | Word::NearRequest | Word::NearPackets | Word::SilentFlow
-    )
-}
-
-// Whether a word speaks of times by load.
-fn is_of_load(word: Word) -> bool
-    ensures { result ≡ is_of_load word }
-{
-    matches!(word, Word::NearOrLate | Word::SilentOrLate)
-}
-
-// The mark under which what a mark reports by load is found.
-fn mark_by_bus(mark: Mark) -> Mark
-    ensures { result ≡ mark_by_bus mark }
-{
-    let word = match mark.word {
-        Word::NearOrLate => Word::NearFlow,
-        Word::SilentOrLate => Word::SilentFlow,
-        _ => mark.word,
-    };
-    Mark { word, ..mark }
-}
-
-// Whether a word speaks of who is asked for claims.
-fn is_of_asking(word: Word) -> bool
-    ensures { result ≡ is_of_asking word }
-{
-    matches!(word, Word::Deaf)
-}
-
-// Whether a word speaks of planned broadcasts.
-fn is_of_broadcasts(word: Word) -> bool
-    ensures { result ≡ is_of_broadcasts word }
-{
-    matches!(word, Word::SilentPackets)
-}
-
-// Takes a frame of this time, which announces this and counts for this unit, if it does, for the broadcasts of units.
-fn take_packet(
-    broadcasts: &mut BegunBroadcasts,
-    moments: &mut Moments,
-    basis: &Basis<'_>,
-    known: &Known,
-    unit: Option<usize>,
-    frame: &Frame,
-    announced: Option<Announcement>,
-    time: Option<u64>,
-    line: u64,
-) -> Result<(), AllocError>
-    requires time { IfSome time (λ t. t < 2 ^ 61) }
-    requires near { AreNear moments.old }
-    ensures near { OnOk result (AreNear moments.new) }
-    ensures moments { OnOk result ((m : SomeMoments) (b : SomeBroadcasts) → RecallsMoments moments.old m
-        → RecallsBroadcasts (settings_of basis.now) broadcasts.old b
-        → RecallsMoments moments.new (with_packet_stream (settings_of basis.now) time line
-        (packet_with basis.now.plan.now.timing unit frame.now b) m)) }
-    ensures broadcasts { OnOk result ((b : SomeBroadcasts) → RecallsBroadcasts (settings_of basis.now) broadcasts.old b
-        → RecallsBroadcasts (settings_of basis.now) broadcasts.new
-        (broadcasts_behind (settings_of basis.now)
-        (known_by known.now) unit frame.now announced time moments.old.since line b)) }
-{
-    let stream = broadcasts.packet(basis, unit, frame);
-    broadcasts.take(
-        basis,
-        known,
-        unit,
-        frame,
-        announced,
-        time,
-        moments.since,
-        line,
-    )?;
-    moments.take_packet(basis, time, line, stream)
 }
 
 impl<'a> AuditLog<'a> {
@@ -419,7 +317,7 @@ impl<'a> AuditLog<'a> {
     }
 
     // Takes the frame before, if there is one, which stands there again at this time, if it has one.
-    #[tactic(auto, unfolding(crate::specs::AuditText::past_again))]
+    #[tactic(auto, unfolding(crate::specs::AuditPasts::past_again))]
     fn take_taken(&mut self, time: Option<u64>) -> Result<(), AllocError>
         requires time { IfSome time (λ t. t < 2 ^ 61) }
         requires near { AreAllNear self.old }

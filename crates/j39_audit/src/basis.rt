@@ -1,8 +1,11 @@
 //! What an audit goes by.
-ghost use Rattle.std.specs.Prelude.{◌≡◌, ◌≢◌, ◌<◌, ◌&&◌, ℕ, true, false, not, IfOk, length, slice_index_or};
+ghost use Rattle.std.specs.Prelude.{◌≡◌, ◌≢◌, ◌<◌, ◌&&◌, ℕ, true, false, not, All, IfOk, length, slice_index_or};
+ghost use Rattle.std.proofs.Props.{props};
 ghost use Rattle.j39_findings.specs.Standing.{stays_of};
 ghost use Rattle.j39_id.specs.Name.{is_arbitrary};
+ghost use Rattle.j39_audit.specs.QueueTimes.{AreQueueTimes};
 ghost use Rattle.j39_audit.specs.Settings.{AreMoving};
+ghost use Rattle.j39_audit.specs.inside.ResponseTimes.{IsResponse};
 ghost use Rattle.j39_audit.specs.inside.Sending.{AreSent, is_sender_of};
 
 use crate::by_load::Bound;
@@ -12,8 +15,8 @@ use std::alloc::{AllocError, Global};
 
 /// The plan, which of its units may move to other addresses, of which groups each has flows, whether frames of the bus
 /// may be missing in the log, by how many microseconds the time of a line may differ from the end of its frame, how
-/// many milliseconds without a frame are a gap, how long each flow takes to be sent, and by what it is known how early
-/// the moment of a message may have been.
+/// many milliseconds without a frame are a gap, how long each flow takes to be sent, within how many milliseconds of
+/// its moment each one's message is queued, and by what it is known how early the moment of a message may have been.
 #[derive(Clone, Copy)]
 pub(crate) struct Basis<'a> {
     pub plan: &'a Plan,
@@ -23,8 +26,11 @@ pub(crate) struct Basis<'a> {
     pub stamps: u64,
     pub quiet: u64,
     pub responses: &'a [Option<u64>],
+    pub queue_times: &'a [Option<u16>],
     pub bound: Bound,
     pub ghost sent_so: { AreSent plan.now sent.now },
+    pub ghost queued_so: { AreQueueTimes plan.now queue_times.now },
+    pub ghost few_us: { All IsResponse responses.now } by { Prim.hlevel props },
 }
 
 // Whether a unit may choose an address, and doesn't stay at the planned one.

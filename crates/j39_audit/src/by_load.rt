@@ -1,6 +1,7 @@
 //! How late a message may be, by the load of the bus.
-ghost use Rattle.std.specs.Prelude.{◌≡◌, ◌≤◌, ◌^◌, IfOk, map};
+ghost use Rattle.std.specs.Prelude.{◌≡◌, ◌≤◌, ◌^◌, All, IfOk, map};
 ghost use Rattle.j39_audit.specs.Responses.{AreResponses, bits_reported, response, us_at_logger};
+ghost use Rattle.j39_audit.specs.inside.ResponseTimes.{IsResponse};
 
 use j39_load::{Delay, Loads, timing_of, us_of_bits};
 use j39_network::{Plan, Timing};
@@ -39,7 +40,8 @@ fn us_at_logger(us: u64) -> u64
 
 // How long behind its moment a message of this delay has been sent at most.
 fn response(timing: Timing, delay: &Option<Delay>) -> Option<u64>
-    ensures { result ≡ response timing delay.now }
+    ensures value { result ≡ response timing delay.now }
+    ensures few { IsResponse result }
 {
     match bits_reported(*delay) {
         Some(bits) => Some(us_at_logger(us_of_bits(timing, u64::from(bits)) as u64)),
@@ -53,7 +55,8 @@ fn responses_by(
     timing: Timing,
     delays: &[Option<Delay>],
 ) -> Result<Vec<Option<u64>>, AllocError>
-    ensures { IfOk result (λ responses. responses.items ≡ map (response timing) delays.now) }
+    ensures values { IfOk result (λ responses. responses.items ≡ map (response timing) delays.now) }
+    ensures few { IfOk result (λ responses. All IsResponse responses.items) }
 {
     let mut responses = Vec::new(alloc);
     for delay in delays {
@@ -64,7 +67,8 @@ fn responses_by(
 
 /// How long behind its moment a message of each flow has been sent at most, in microseconds of the logger's clock.
 pub(crate) fn responses_of(alloc: Global, plan: &Plan) -> Result<Vec<Option<u64>>, AllocError>
-    ensures { IfOk result (λ responses. AreResponses plan.now responses.items) }
+    ensures values { IfOk result (λ responses. AreResponses plan.now responses.items) }
+    ensures few { IfOk result (λ responses. All IsResponse responses.items) }
 {
     let Some(timing) = timing_of(plan) else {
         return Ok(Vec::new(alloc));

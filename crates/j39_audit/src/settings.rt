@@ -4,8 +4,10 @@ ghost use Rattle.std.specs.FinSet.{contains};
 ghost use Rattle.j39_id.specs.Addresses.{in_pool};
 ghost use Rattle.j39_audit.specs.Claiming.{has_strangers, is_address_of, is_free_for};
 ghost use Rattle.j39_audit.specs.SentMessages.{has_flow_of};
+ghost use Rattle.j39_audit.specs.QueueTimes.{queue_time_of};
 ghost use Rattle.j39_audit.specs.Settings.{by_load, logger_error, moves, response_of};
 ghost use Rattle.j39_audit.specs.inside.Recalling.{settings_of};
+ghost use Rattle.j39_audit.specs.inside.ResponseTimes.{IsResponse};
 
 use crate::basis::Basis;
 use crate::by_load::Bound;
@@ -28,16 +30,30 @@ impl<'a> Basis<'a> {
             stamps: self.stamps,
             quiet: self.quiet,
             responses: self.responses,
+            queue_times: self.queue_times,
             bound: Bound::Load,
         }
     }
 
     /// How long behind its moment a message of the flow at a place has been sent at most, where this is known.
     pub fn response(&self, place: usize) -> Option<u64>
-        ensures { result ≡ response_of (settings_of self.now) place }
+        ensures value { result ≡ response_of (settings_of self.now) place }
+        ensures few { IsResponse result }
     {
         if place < self.responses.len() {
             self.responses[place]
+        } else {
+            None
+        }
+    }
+
+    /// Within how many milliseconds of its moment a message of the flow at a place is queued, where this is known.
+    #[tactic(auto, unfolding(crate::specs::QueueTimes::queue_time_of))]
+    pub fn queue_time(&self, place: usize) -> Option<u16>
+        ensures { result ≡ queue_time_of (settings_of self.now).plan place }
+    {
+        if place < self.queue_times.len() {
+            self.queue_times[place]
         } else {
             None
         }

@@ -7,7 +7,7 @@ ghost use Rattle.j39_audit.specs.MessageStreams.{flow_stream, is_in_stream, queu
 ghost use Rattle.j39_audit.specs.MessageStreams.{paced_stream, asked_stream};
 ghost use Rattle.j39_audit.specs.UnitTimes.{longest_us, shortest_us};
 ghost use Rattle.j39_audit.specs.MessageStreams.{flow_pause, flow_pause_of, is_claiming_there, stream_pause};
-ghost use Rattle.j39_audit.specs.MessageStreams.{shows_silence, sighted_stream, slack_by};
+ghost use Rattle.j39_audit.specs.MessageStreams.{sent_within, shows_silence, sighted_stream, slack_by};
 ghost use Rattle.j39_audit.specs.inside.Recalling.{settings_of};
 
 use crate::basis::Basis;
@@ -63,24 +63,43 @@ pub(crate) fn longest_us(timing: Timing, ms: u32) -> u64
 }
 
 // Within how many milliseconds of its moment a message is queued, or announced.
-fn queued_within_ms(pace: Pace, single: bool) -> u32
-    ensures value { result ≡ queued_within_ms pace single }
+fn queued_within_ms(pace: Pace, time: u16, single: bool) -> u32
+    ensures value { result ≡ queued_within_ms pace time single }
     ensures few { result < 2 ^ 17 }
 {
     if single {
-        u32::from(pace.jitter)
+        u32::from(time)
     } else {
-        u32::from(pace.period) + u32::from(pace.jitter)
+        u32::from(pace.period) + u32::from(time)
     }
 }
 
-// How far behind its moment lies what bounds a message, of a flow of this response time and this jitter.
-fn slack_by(bound: Bound, response: Option<u64>, jitter: u64) -> Option<u64>
-    ensures { result ≡ slack_by bound response jitter }
+// How far behind its moment lies what bounds a message, of a flow of this response time, queued within this time.
+fn slack_by(bound: Bound, response: Option<u64>, queued: u64) -> Option<u64>
+    ensures { result ≡ slack_by bound response queued }
 {
     match bound {
-        Bound::Bus => Some(jitter),
+        Bound::Bus => Some(queued),
         Bound::Load => response,
+    }
+}
+
+// The response time of a flow of this pace whose messages are queued within so many milliseconds.
+fn sent_within(
+    basis: &Basis<'_>,
+    timing: Timing,
+    place: usize,
+    pace: Pace,
+    time: u16,
+) -> Option<u64>
+    ensures { result ≡ sent_within (settings_of basis.now) timing place pace time }
+{
+    match basis.response(place) {
+        Some(response) => {
+            let later = longest_us(timing, u32::from(time.saturating_sub(pace.jitter)));
+            Some(response + later)
+        }
+        None => None,
     }
 }
 
@@ -164,7 +183,7 @@ fn stream_pause(basis: &Basis<'_>, timing: Timing, place: usize) -> Option<u64>
     }
 }
 
-// The stream of a flow of this pace.
+// The stream of a flow of this pace, whose messages are queued within this time.
 fn paced_stream(
     basis: &Basis<'_>,
     timing: Timing,
@@ -172,10 +191,11 @@ fn paced_stream(
     place: usize,
     group: &GroupPlan,
     pace: Pace,
+    time: u16,
     pause: Option<u64>,
 ) -> Option<MessageStream>
     requires { IfSome pause (λ it. it < 2 ^ 40) }
-    ensures value { result ≡ paced_stream (settings_of basis.now) timing frame.now place group.now pace pause }
+    ensures value { result ≡ paced_stream (settings_of basis.now) timing frame.now place group.now pace time pause }
     ensures pause { IfSome result (λ stream. IfSome stream.pause (λ it. it < 2 ^ 40)) }
     ensures place { IfSome result (λ stream. stream.mark.subject ≡ place) }
     ensures few { IfSome result (λ stream. stream.step < 2 ^ 27) }
@@ -184,11 +204,12 @@ fn paced_stream(
     if !is_in_stream(group, single) {
         return None;
     }
-    let jitter = longest_us(timing, queued_within_ms(pace, single));
+    let queued = longest_us(timing, queued_within_ms(pace, time, single));
+    let sent = sent_within(basis, timing, place, pace, time);
     Some(MessageStream {
         mark: make_mark(Word::NearFlow, place),
         step: shortest_us(timing, pace.period),
-        slack: slack_by(basis.bound, basis.response(place), jitter),
+        slack: slack_by(basis.bound, sent, queued),
         pause,
     })
 }
@@ -209,8 +230,9 @@ fn flow_stream(
     let flow = basis.plan.flows.get(place)?;
     let pace = flow.pace?;
     let group = basis.plan.groups.get(flow.group)?;
+    let time = basis.queue_time(place)?;
     let pause = stream_pause(basis, timing, place);
-    paced_stream(basis, timing, frame, place, group, pace, pause)
+    paced_stream(basis, timing, frame, place, group, pace, time, pause)
 }
 
 // The stream of a request with this period.

@@ -13,7 +13,7 @@ use Rattle.j39_id.specs.Name.{is_arbitrary}
 use Rattle.j39_id.specs.declared.frame.Frame.{Frame}
 use Rattle.j39_network.specs.declared.plan.unit_plan.UnitPlan.{UnitPlan}
 use Rattle.j39_tp.specs.declared.packet.Packet.{Packet}
-use Rattle.j39_audit.specs.AuditText.{AuditPast, claims_before, past_with_frame, noted_newly}
+use Rattle.j39_audit.specs.AuditPasts.{AuditPast, claims_before, past_with_frame, noted_newly}
 use Rattle.j39_audit.specs.Below.{any_below}
 use Rattle.j39_audit.specs.Breaks.{breaks, line_time}
 use Rattle.j39_audit.specs.Claiming.{Heard, HeardClaims, Knowledge, broken_off, first_there, has_strangers, is_address_of, is_another_there, is_at}

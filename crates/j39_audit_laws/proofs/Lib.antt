@@ -34,6 +34,7 @@ pub mod PauseFrames
 pub mod PauseSteps
 pub mod PlanTiming
 pub mod Planned
+pub mod QueueTimes
 pub mod RunAudits
 pub mod RunFrames
 pub mod RunKept

@@ -11,8 +11,8 @@ use Rattle.j39_id.specs.declared.line_error.LineError.{LineError}
 use Rattle.j39_id.specs.declared.line_error.LineError.TheVariants.{Empty, NoHash, ShortIdent, BadIdent, TooLong, BadData}
 use Rattle.j39_follow.specs.LogLines.{IsTimeText}
 use Rattle.j39_tp.specs.declared.packet.Packet.{Packet}
-use Rattle.j39_audit.specs.AuditText.{AuditPast, AuditsLine, AuditsLines, AuditsShort, claims_before, nothing_read, passed_by, past_with_frame, skipped_line}
-use Rattle.j39_audit.specs.AuditText.{with_next_number, past_again}
+use Rattle.j39_audit.specs.AuditPasts.{AuditPast, AuditsLine, AuditsLines, AuditsShort, claims_before, nothing_read, passed_by, past_with_frame, skipped_line}
+use Rattle.j39_audit.specs.AuditPasts.{with_next_number, past_again}
 use Rattle.j39_audit.specs.Breaks.{breaks, line_time}
 use Rattle.j39_audit.specs.Claiming.{HeardClaims}
 use Rattle.j39_audit.specs.Counting.{Noted}

@@ -27,7 +27,7 @@ use Rattle.j39_load.specs.SentFrames.{IsSentByUnit, Single, HasPeriodMs, goes_to
 use Rattle.j39_load.proofs.KeepingApart.{few_ident}
 use Rattle.j39_load.proofs.KeepingPlanned.{no_broadcasts, planned_address, planned_held, planned_apart, planned_receiver, planned_sender}
 use Rattle.j39_follow.specs.LogLines.{IsReadPart, IsTimeText}
-use Rattle.j39_audit.specs.AuditText.{AuditPast, AuditsLines, claims_before, nothing_read, past_with_frame, with_next_number, AuditsLine, noted_newly}
+use Rattle.j39_audit.specs.AuditPasts.{AuditPast, AuditsLines, claims_before, nothing_read, past_with_frame, with_next_number, AuditsLine, noted_newly}
 use Rattle.j39_audit.specs.Breaks.{line_time, breaks}
 use Rattle.j39_audit.specs.Looking.{IsPacketOf, claimant, is_claim}
 use Rattle.j39_audit.specs.Settings.{Settings, logger_error}

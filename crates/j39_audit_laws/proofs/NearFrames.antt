@@ -12,12 +12,13 @@ use Rattle.j39_id.specs.declared.frame.Frame.{Frame}
 use Rattle.j39_network.specs.declared.plan.group_plan.GroupPlan.{GroupPlan}
 use Rattle.j39_network.specs.declared.plan.pace.Pace.{Pace}
 use Rattle.j39_network.specs.declared.plan.timing.Timing.{Timing}
-use Rattle.j39_audit.specs.AuditText.{claims_before, gap_before, noted_newly}
+use Rattle.j39_audit.specs.AuditPasts.{claims_before, gap_before, noted_newly}
 use Rattle.j39_audit.specs.Claiming.{knowledge}
 use Rattle.j39_audit.specs.Counting.{Key, Noted, is_same_key, key_of}
 use Rattle.j39_audit.specs.Looking.{is_single}
 use Rattle.j39_audit.specs.MessageStreams.{asked_stream, flow_pace, flow_stream, group_in_flow, is_in_stream, nothing_sighted, paced_stream, request_period}
 use Rattle.j39_audit.specs.MessageStreams.{request_priority, sighted_behind, sighted_stream, stream_mark, stream_pause}
+use Rattle.j39_audit.specs.QueueTimes.{queue_time_of}
 use Rattle.j39_audit.specs.Moments.{Moments, all_pauses_ended, begins_anew, begun_anew, ends_with, listed_pauses_ended, moment_window, moments_behind}
 use Rattle.j39_audit.specs.Moments.{near_noted, pause_ended, pauses_dropped, pauses_ended, silence_behind, silent_noted, since_behind, with_counted}
 use Rattle.j39_audit.specs.Moments.{with_deviating, with_ending, with_frame_of, with_message, with_moment, with_pause, with_stream, with_time}
@@ -179,10 +180,12 @@ module _ (b : Settings) (t : Timing) (timed : b.plan.timing ≡ Some t) (n : ℕ
   of_flow : (f : Frame) (k : ℕ) (x : MessageStream) → flow_stream b t f k ≡ Some x → x.mark ≡ stream_mark NearFlow k
   unfolding flow_stream
   of_flow f k x e =
-      option_and_then_some _ (flow_pace b k) x e (λ pace _ e1. option_and_then_some _ (group_in_flow b k) x e1 (λ group _ e2. paced group pace e2))
+      option_and_then_some _ (flow_pace b k) x e (λ pace _ e1. option_and_then_some _ (group_in_flow b k) x e1 (λ group _ e2.
+      option_and_then_some _ (queue_time_of b.plan k) x e2 (λ time _ e3. paced group pace time e3)))
     where
-      paced : (group : GroupPlan) (pace : Pace) → paced_stream b t f k group pace (stream_pause b t k) ≡ Some x → x.mark ≡ stream_mark NearFlow k
-      paced group pace is = elim (cases_Bool (is_in_stream group (is_single (pgn_of f.ident)))) [
+      paced : (group : GroupPlan) (pace : Pace) (time : ℕ) → paced_stream b t f k group pace time (stream_pause b t k) ≡ Some x
+          → x.mark ≡ stream_mark NearFlow k
+      paced group pace time is = elim (cases_Bool (is_in_stream group (is_single (pgn_of f.ident)))) [
         | inl inside ↦ sym (ap (λ (y : MessageStream). y.mark) (same_Some _ x
             (sym (cond-true (is_in_stream group (is_single (pgn_of f.ident))) _ None inside) ∙ is)))
         | inr other ↦ absurd (none-some x (sym (cond-false (is_in_stream group (is_single (pgn_of f.ident))) _ None other) ∙ is))

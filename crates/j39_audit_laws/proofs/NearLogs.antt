@@ -23,11 +23,13 @@ use Rattle.j39_load.specs.LoadFindings.{AsksOfBus}
 use Rattle.j39_load.specs.Loads.{us_of_bits}
 use Rattle.j39_load.specs.SentFrames.{FrameSources, HasPeriodMs}
 use Rattle.j39_load.specs.declared.waits.delay.Delay.{Delay}
-use Rattle.j39_audit.specs.AuditText.{AuditPast, AuditsLines, look_at, log_ended, mark_at, moments_with_frame, nothing_read}
+use Rattle.j39_audit.specs.AuditPasts.{AuditPast, AuditsLines, log_ended, moments_with_frame, nothing_read}
+use Rattle.j39_audit.specs.AuditText.{look_at, mark_at}
 use Rattle.j39_audit.specs.Breaks.{line_time}
 use Rattle.j39_audit.specs.Counting.{Noted, reported_at, occurrences_of}
 use Rattle.j39_audit.specs.Looking.{is_single}
-use Rattle.j39_audit.specs.MessageStreams.{flow_pace, flow_stream, group_in_flow, is_in_stream, paced_stream, stream_pause}
+use Rattle.j39_audit.specs.MessageStreams.{flow_pace, flow_stream, group_in_flow, is_in_stream, paced_stream, sent_within, stream_pause}
+use Rattle.j39_audit.specs.QueueTimes.{queue_time_of}
 use Rattle.j39_audit.specs.UnitTimes.{shortest_us}
 use Rattle.j39_audit.specs.Moments.{Moments, all_pauses_ended, behind_gap, earliest_end, long_before, lower_bound, moment_window, moments_behind}
 use Rattle.j39_audit.specs.Near.{is_too_near}
@@ -47,6 +49,7 @@ use Rattle.j39_audit_laws.proofs.PlanTiming.{planned_timing}
 use Rattle.j39_audit_laws.proofs.ReportedTimes.{none_near_by_load}
 use Rattle.j39_audit_laws.proofs.Walk.{IsFrameNext, IsNext, at_end, load_with}
 use Rattle.j39_audit.specs.Again.{moments_again}
+use Rattle.j39_audit_laws.proofs.QueueTimes.{queued_in_jitter, sent_in_jitter}
 
 -- ---- a log
 
@@ -90,14 +93,20 @@ module _ (s : Settings) (log : List Line) (t : Timing) (timed : s.plan.timing �
   unfolding flow_stream
   its_stream f x e =
       option_and_then_some _ (flow_pace b n) x e (λ pace paced e1. option_and_then_some _ (group_in_flow b n) x e1 (λ group _ e2.
+      option_and_then_some _ (queue_time_of b.plan n) x e2 (λ time queued e3.
       let of_pace : pace ≡ period.pace = same_Some pace period.pace
       (sym paced ∙ ap (λ (o : Option FlowPlan). option_and_then (λ (y : FlowPlan). y.pace) o) period.its ∙ period.paced) in
-      let is = of_group group pace e2 in
-      (is.0 ∙ ap (λ (p : Pace). shortest_us timing p.period) of_pace ∙ ap (shortest_us timing) period.is, is.1 ∙ its_response)))
+      let of_time : time ≡ pace.jitter = same_Some time pace.jitter
+      (sym queued ∙ queued_in_jitter b.plan period.flow n period.pace period.its period.paced period.unasked
+      ∙ ap (λ (p : Pace). Some p.jitter) (sym of_pace)) in
+      let is = of_group group pace time e3 in (
+        is.0 ∙ ap (λ (p : Pace). shortest_us timing p.period) of_pace ∙ ap (shortest_us timing) period.is,
+        is.1 ∙ ap (sent_within b t n pace) of_time ∙ sent_in_jitter b t n pace ∙ its_response,
+      ))))
     where
-      of_group : (group : GroupPlan) (pace : Pace) → paced_stream b t f n group pace (stream_pause b t n) ≡ Some x
-          → (x.step ≡ shortest_us timing pace.period) × (x.slack ≡ response_of b n)
-      of_group group pace is = elim (cases_Bool (is_in_stream group (is_single (pgn_of f.ident)))) [
+      of_group : (group : GroupPlan) (pace : Pace) (time : ℕ) → paced_stream b t f n group pace time (stream_pause b t n) ≡ Some x
+          → (x.step ≡ shortest_us timing pace.period) × (x.slack ≡ sent_within b t n pace time)
+      of_group group pace time is = elim (cases_Bool (is_in_stream group (is_single (pgn_of f.ident)))) [
         | inl inside ↦
             let same = same_Some _ x (sym (cond-true (is_in_stream group (is_single (pgn_of f.ident))) _ None inside) ∙ is) in
             (sym (ap (λ (y : MessageStream). y.step) same), sym (ap (λ (y : MessageStream). y.slack) same))

@@ -17,8 +17,9 @@ use Rattle.j39_timing.specs.Messages.{frame_end}
 use Rattle.j39_timing.specs.TimedFrames.{Schedule}
 use Rattle.j39_load.specs.BusTimes.{with_claims}
 use Rattle.j39_load.specs.Clocks.{bit_time}
-use Rattle.j39_audit.specs.AuditText.{AuditPast, AuditsLines, look_at, log_ended, mark_at, broadcasts_there, counted_for, moments_with_frame, nothing_read}
-use Rattle.j39_audit.specs.AuditText.{noted_newly}
+use Rattle.j39_audit.specs.AuditPasts.{AuditPast, AuditsLines, log_ended, broadcasts_there, counted_for, moments_with_frame, nothing_read}
+use Rattle.j39_audit.specs.AuditText.{look_at, mark_at}
+use Rattle.j39_audit.specs.AuditPasts.{noted_newly}
 use Rattle.j39_audit.specs.Counting.{Noted, key_of, reported_at, occurrences_of}
 use Rattle.j39_audit.specs.Looking.{is_single}
 use Rattle.j39_audit.specs.MessageStreams.{flow_pace, flow_stream, group_in_flow, is_in_stream, paced_stream, stream_pause, nothing_sighted, sighted_behind}
@@ -40,7 +41,8 @@ use Rattle.j39_audit_laws.proofs.Walk.{IsFrameNext, IsNext, at_end, moments_with
 use Rattle.j39_timing.specs.Errors.{Damaged, IsBusWithErrors}
 use Rattle.j39_load.specs.SentFrames.{Held}
 use Rattle.j39_audit.specs.BegunBroadcasts.{packet_with}
-use Rattle.j39_audit.specs.MessageStreams.{queued_within_ms, slack_by, stream_mark}
+use Rattle.j39_audit.specs.MessageStreams.{queued_within_ms, sent_within, slack_by, stream_mark}
+use Rattle.j39_audit.specs.QueueTimes.{queue_time_of}
 use Rattle.j39_audit.specs.UnitTimes.{longest_us}
 use Rattle.j39_audit.specs.Moments.{begun_anew, damaged_at_once, idle_behind, idle_mark, is_apart, leaves_idle, reach_back, shows_idle, since_behind, since_by}
 use Rattle.j39_audit.specs.Moments.{with_packet_stream}
@@ -58,6 +60,7 @@ use Rattle.j39_audit_laws.proofs.NearClocks.{fast, packet_mark, same_bit, within
 use Rattle.j39_audit.specs.Breaks.{line_time}
 use Rattle.j39_audit.specs.Again.{moments_again, taken_frame}
 use Rattle.j39_audit.specs.declared.again.TakenFrame.{TakenFrame}
+use Rattle.j39_audit_laws.proofs.QueueTimes.{queued_in_jitter}
 
 -- ---- a log
 
@@ -76,7 +79,7 @@ module _ (s : Settings) (log : List Line) (t : Timing) (timed : s.plan.timing �
   step = shortest_us timing ms
 
   abbrev jitter : ℕ
-  jitter = queued_within_ms part.period.pace (nat_le part.group.most 8)
+  jitter = queued_within_ms part.period.pace part.period.pace.jitter (nat_le part.group.most 8)
 
   -- the clock counts from a moment long before the zero of the log
   abbrev logs : Lines
@@ -99,12 +102,12 @@ module _ (s : Settings) (log : List Line) (t : Timing) (timed : s.plan.timing �
   its_frame p inside message = elim (part.frames p inside message) [
     | inl (least, is) ↦
         let sort : nat_le part.group.most 8 ≡ true = le-leb part.group.most 8 least in
-        subst (λ (b : Bool). IsInTime (queued_within_ms part.period.pace b) p) (sym sort)
+        subst (λ (b : Bool). IsInTime (queued_within_ms part.period.pace part.period.pace.jitter b) p) (sym sort)
         (subst (λ (x : Pace). IsInTime x.jitter p) (same_pace is.flow is.pace is.its is.paced)
         (is.release_first, within_ms timing.bitrate timing.drift is.pace.jitter (release p) (bus.queued p) none is.jitter_at_most))
     | inr (more, is) ↦
         let sort : nat_le part.group.most 8 ≡ false = lt-leb part.group.most 8 more in
-        subst (λ (b : Bool). IsInTime (queued_within_ms part.period.pace b) p) (sym sort)
+        subst (λ (b : Bool). IsInTime (queued_within_ms part.period.pace part.period.pace.jitter b) p) (sym sort)
         (subst (λ (x : Pace). IsInTime (x.period + x.jitter) p) (same_pace is.flow is.pace is.its is.paced)
         (is.release_first, within_ms timing.bitrate timing.drift (is.pace.period + is.pace.jitter) (release p) (bus.queued p) none is.jitter_at_most))
   ]
@@ -113,33 +116,38 @@ module _ (s : Settings) (log : List Line) (t : Timing) (timed : s.plan.timing �
   unfolding flow_stream
   its_stream f x e =
       option_and_then_some _ (flow_pace s n) x e (λ pace paced e1. option_and_then_some _ (group_in_flow s n) x e1 (λ group grouped e2.
+      option_and_then_some _ (queue_time_of s.plan n) x e2 (λ time queued e3.
       let of_pace : pace ≡ part.period.pace = same_Some pace part.period.pace
       (sym paced ∙ ap (λ (o : Option FlowPlan). option_and_then (λ (y : FlowPlan). y.pace) o) part.period.its ∙ part.period.paced) in
       let of_group : group ≡ part.group = same_Some group part.group
       (sym grouped ∙ ap (λ (o : Option FlowPlan). option_and_then
       (λ (y : FlowPlan). slice_get s.plan.groups.items y.group) o) part.period.its ∙ part.group_is) in
-      let is = of_stream group pace e2 in (
+      let of_time : time ≡ part.period.pace.jitter = same_Some time part.period.pace.jitter
+      (sym queued ∙ queued_in_jitter s.plan part.period.flow n part.period.pace part.period.its part.period.paced part.period.unasked) in
+      let is = of_stream group pace time e3 in (
         is.0 ∙ ap (λ (p : Pace). shortest_us timing p.period) of_pace ∙ ap (shortest_us timing) part.period.is,
-        is.1 ∙ ap Some (ap (λ (p : Pace). longest_us timing (queued_within_ms p (nat_le group.most 8))) of_pace
-            ∙ ap (λ (g : GroupPlan). longest_us timing (queued_within_ms part.period.pace (nat_le g.most 8))) of_group ∙ (exact_clocks t none).longest jitter),
-      )))
+        is.1 ∙ ap Some (ap (λ (p : Pace). longest_us timing (queued_within_ms p time (nat_le group.most 8))) of_pace
+            ∙ ap (λ (ms : ℕ). longest_us timing (queued_within_ms part.period.pace ms (nat_le group.most 8))) of_time
+            ∙ ap (λ (g : GroupPlan). longest_us timing (queued_within_ms part.period.pace part.period.pace.jitter (nat_le g.most 8))) of_group
+            ∙ (exact_clocks t none).longest jitter),
+      ))))
     where
       -- the stream has single frames where these are all
       of_sort : (group : GroupPlan) (one : Bool) → is_in_stream group one ≡ true → one ≡ nat_le group.most 8
       of_sort group true inside = sym inside
       of_sort group false inside = sym (lt-leb group.most 8 (ltb-true 8 group.most inside))
 
-      of_stream : (group : GroupPlan) (pace : Pace) → paced_stream s t f n group pace (stream_pause s t n) ≡ Some x
-          → (x.step ≡ shortest_us timing pace.period) × (x.slack ≡ Some (longest_us timing (queued_within_ms pace (nat_le group.most 8))))
-      of_stream group pace is =
+      of_stream : (group : GroupPlan) (pace : Pace) (time : ℕ) → paced_stream s t f n group pace time (stream_pause s t n) ≡ Some x
+          → (x.step ≡ shortest_us timing pace.period) × (x.slack ≡ Some (longest_us timing (queued_within_ms pace time (nat_le group.most 8))))
+      of_stream group pace time is =
           let one : Bool = is_single (pgn_of f.ident) in
           elim (cases_Bool (is_in_stream group one)) [
             | inl inside ↦
                 let same = same_Some _ x (sym (cond-true (is_in_stream group one) _ None inside) ∙ is) in (
                   sym (ap (λ (y : MessageStream). y.step) same),
                   sym (ap (λ (y : MessageStream). y.slack) same)
-                      ∙ ap (λ (b : Bound). slack_by b (response_of s n) (longest_us timing (queued_within_ms pace one))) by_bus
-                      ∙ ap (λ (b : Bool). Some (longest_us timing (queued_within_ms pace b))) (of_sort group one inside),
+                      ∙ ap (λ (b : Bound). slack_by b (sent_within s t n pace time) (longest_us timing (queued_within_ms pace time one))) by_bus
+                      ∙ ap (λ (b : Bool). Some (longest_us timing (queued_within_ms pace time b))) (of_sort group one inside),
                 )
             | inr other ↦ absurd (none-some x (sym (cond-false (is_in_stream group one) _ None other) ∙ is))
           ]

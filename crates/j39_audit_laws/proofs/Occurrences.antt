@@ -7,7 +7,8 @@ use Rattle.std.proofs.lemmas.List.{append_cancel_left, append-nil, length-append
 use Rattle.std.proofs.lemmas.List.Elements.{Contains-append_left, Contains-get_or, Contains-push, Contains-push_cases}
 use Rattle.std.proofs.lemmas.List.Quantifiers.{all_pairs_push}
 use Rattle.j39_id.specs.Lines.{Line}
-use Rattle.j39_audit.specs.AuditText.{AuditPast, AuditsLine, AuditsLines, is_of_asking, is_of_broadcasts, is_of_moments, look_at, nothing_read, is_of_load}
+use Rattle.j39_audit.specs.AuditPasts.{AuditPast, AuditsLine, AuditsLines, nothing_read}
+use Rattle.j39_audit.specs.AuditText.{is_of_asking, is_of_broadcasts, is_of_moments, look_at, is_of_load}
 use Rattle.j39_audit.specs.AuditText.{mark_by_bus}
 use Rattle.j39_audit.specs.Counting.{Noted, most_times, reported_at, reported_in, occurrences_of}
 use Rattle.j39_audit.specs.Settings.{Settings}

@@ -8,7 +8,8 @@ use Rattle.j39_id.specs.Name.{is_arbitrary}
 use Rattle.j39_network.specs.declared.plan.Plan.{Plan}
 use Rattle.j39_network.specs.declared.plan.unit_plan.UnitPlan.{UnitPlan}
 use Rattle.j39_stream.specs.declared.verdict.Verdict.{Verdict}
-use Rattle.j39_audit.specs.AuditText.{AuditPast, IsAuditedLog, audit_text, audit_verdict, log_ended, nothing_read}
+use Rattle.j39_audit.specs.AuditPasts.{AuditPast, log_ended, nothing_read}
+use Rattle.j39_audit.specs.AuditText.{IsAuditedLog, audit_text, audit_verdict}
 use Rattle.j39_audit.specs.Responses.{AreResponsesBy, response}
 use Rattle.j39_audit.specs.Gaps.{quiet_by}
 use Rattle.j39_audit.specs.Settings.{AreMoving, Settings}

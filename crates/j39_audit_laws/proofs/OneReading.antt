@@ -8,7 +8,7 @@ use Rattle.j39_tp.specs.declared.packet.Packet.{Packet}
 use Rattle.j39_log.proofs.OneText.{one_packet}
 use Rattle.j39_follow.proofs.OneText.{one_interface, one_part, one_time}
 use Rattle.j39_follow.specs.LogLines.{IsElsewhere, NamesInterface}
-use Rattle.j39_audit.specs.AuditText.{AuditPast, AuditsFrame, AuditsLine, AuditsLines, AuditsPart, AuditsShort, passed_by, past_with_frame, with_next_number}
+use Rattle.j39_audit.specs.AuditPasts.{AuditPast, AuditsFrame, AuditsLine, AuditsLines, AuditsPart, AuditsShort, passed_by, past_with_frame, with_next_number}
 use Rattle.j39_audit.specs.Breaks.{line_time}
 use Rattle.j39_audit.specs.Looking.{IsPacketOf}
 use Rattle.j39_audit.specs.Settings.{Settings}

@@ -1,10 +1,10 @@
 -- What a frame of a log does by load to a flow of which a message came, and none since.
-use Rattle.std.proofs.Common.{◌≡◌, ◌≢◌, ◌⊎◌, ℕ, ◌+◌, ◌<◌, ◌≤◌, ◌==◌, ◌||◌, ◌++◌, [], List, Bool, true, false, cond, length}
+use Rattle.std.proofs.Common.{◌≡◌, ◌≢◌, ◌⊎◌, ℕ, ◌+◌, ◌<◌, ◌≤◌, ◌==◌, ◌||◌, ◌++◌, [], List, Bool, true, false, not, cond, length}
 use Rattle.std.proofs.Common.{inl, inr, refl, sym, ap, ◌∙◌, subst, arith, Option, Some, None}
 use Rattle.std.specs.Prelude.{Contains, nat_lt, slice_index_or}
 use Rattle.std.specs.List.{slice_get}
 use Rattle.std.specs.Option.{option_and_then, option_map}
-use Rattle.std.proofs.lemmas.Bool.{cases_Bool, cases_eq, cond-false, cond-true, cond_both, eq-eqb, lt-ltb, ne_eqb, true≢false}
+use Rattle.std.proofs.lemmas.Bool.{and_parts, cases_Bool, cases_eq, cond-false, cond-true, cond_both, eq-eqb, lt-ltb, ne_eqb, not-true, true≢false}
 use Rattle.std.proofs.lemmas.List.{get_or_default}
 use Rattle.std.proofs.lemmas.Option.{none-some, option_and_then_some, same_Some}
 use Rattle.j39_id.specs.Ident.{pgn_of}
@@ -17,11 +17,12 @@ use Rattle.j39_network.specs.declared.plan.to.To.TheVariants.{One as ToOne}
 use Rattle.j39_audit.specs.Counting.{Noted}
 use Rattle.j39_audit.specs.Looking.{is_single}
 use Rattle.j39_audit.specs.MessageStreams.{asked_stream, nothing_sighted, sighted_behind, flow_pace, flow_pause, flow_pause_of, flow_stream, group_in_flow}
-use Rattle.j39_audit.specs.MessageStreams.{is_in_stream, paced_stream, request_period, request_priority, shows_silence, sighted_stream, stream_pause}
+use Rattle.j39_audit.specs.MessageStreams.{is_in_stream, paced_stream, request_period, request_priority, sent_within, shows_silence, sighted_stream, stream_pause}
 use Rattle.j39_audit.specs.Moments.{Moments, all_pauses_ended, begun_anew, earliest_end, listed_pauses_ended, long_before, lower_bound, moment_window}
 use Rattle.j39_audit.specs.Moments.{moments_behind, newest_moment, silent_noted, with_counted, with_deviating, with_ending, with_frame_of, with_message}
 use Rattle.j39_audit.specs.Moments.{with_moment, with_pause, with_stream, with_time, with_message_of}
 use Rattle.j39_audit.specs.Pauses.{stands_for, unclear_behind}
+use Rattle.j39_audit.specs.QueueTimes.{queue_time_of}
 use Rattle.j39_audit.specs.Settings.{Settings, by_load as judged_by_load, logger_error, response_of, units_planned}
 use Rattle.j39_audit.specs.Silence.{lag, latest_next, lies_behind, within_pause}
 use Rattle.j39_audit.specs.declared.pauses.Ending.{Ending}
@@ -35,6 +36,7 @@ use Rattle.j39_audit_laws.specs.SilentFlows.{IsEndOfFlow}
 use Rattle.j39_audit_laws.proofs.Hits.{In, in_left}
 use Rattle.j39_audit_laws.proofs.PauseSteps.{AreOthers, AreShown, EndsIt, IsOpen, IsSame, IsStated, Keeps, Watched, all_keep, all_stated, bound, claimed}
 use Rattle.j39_audit_laws.proofs.PauseSteps.{ending_keeps, lags_since, listed, listed_keep, same_more, same_open, same_shown, stated_by, reported_on}
+use Rattle.j39_audit_laws.proofs.QueueTimes.{queued_in_jitter, sent_in_jitter, unanswering}
 use Rattle.j39_run_laws.proofs.Addresses.CleanEnds.{flow_at}
 
 module _ (plain : Settings) (w : Watched (judged_by_load plain)) where
@@ -50,13 +52,22 @@ module _ (plain : Settings) (w : Watched (judged_by_load plain)) where
   -- ---- streams
 
   of_pause : (x : FlowPause) (flow : FlowPlan) (group : GroupPlan) (pace : Pace) (pause : ℕ) → flow_pause_of s t n flow group pace pause ≡ Some x
-      → x.slack ≡ response_of s n
+      → (x.slack ≡ response_of s n) × (flow.on_request ≡ false)
   of_pause x flow group pace pause e = elim (cases_Bool (shows_silence s flow group)) [
-    | inl shows ↦ sym (ap (λ (y : FlowPause). y.slack) (same_Some _ x (sym (cond-true (shows_silence s flow group) _ None shows) ∙ e)))
-    | inr not ↦ absurd (none-some x (sym (cond-false (shows_silence s flow group) _ None not) ∙ e))
+    | inl shows ↦ (
+      sym (ap (λ (y : FlowPause). y.slack) (same_Some _ x (sym (cond-true (shows_silence s flow group) _ None shows) ∙ e))),
+      not-true flow.on_request (and_parts (not flow.on_request) _ (and_parts (not s.part) _ shows).1).0,
+    )
+    | inr other ↦ absurd (none-some x (sym (cond-false (shows_silence s flow group) _ None other) ∙ e))
   ]
 
-  pause_parts : (x : FlowPause) → flow_pause s t n ≡ Some x → (x.slack ≡ response_of s n) × ((pace : Pace) × (w.flow.pace ≡ Some pace))
+  record HasPause (x : FlowPause) : Type 0 where
+    slack : x.slack ≡ response_of s n
+    pace : Pace
+    paced : w.flow.pace ≡ Some pace
+    unasked : w.flow.on_request ≡ false
+
+  pause_parts : (x : FlowPause) → flow_pause s t n ≡ Some x → HasPause x
   unfolding flow_pause
   pause_parts x e =
       option_and_then_some _ (slice_get s.plan.flows.items n) x e (λ flow at e1.
@@ -64,16 +75,26 @@ module _ (plain : Settings) (w : Watched (judged_by_load plain)) where
       option_and_then_some _ flow.pace x e2 (λ pace paced e3.
       option_and_then_some _ (slice_get s.plan.groups.items flow.group) x e3 (λ group _ e4.
       let same : flow ≡ w.flow = same_Some flow w.flow (sym at ∙ w.flow_is) in
-      (of_pause x flow group pace pause e4, (pace, subst (λ (y : FlowPlan). y.pace ≡ Some pace) same paced))))))
+      let is = of_pause x flow group pace pause e4 in
+      record {
+        slack = is.0;
+        pace = pace;
+        paced = subst (λ (y : FlowPlan). y.pace ≡ Some pace) same paced;
+        unasked = subst (λ (y : FlowPlan). y.on_request ≡ false) same is.1;
+      }))))
+
+  -- it answers nothing, so its messages are queued within the jitter
+  its_time : (pace : Pace) → w.flow.pace ≡ Some pace → queue_time_of s.plan n ≡ Some pace.jitter
+  its_time pace paced = queued_in_jitter s.plan w.flow n pace w.flow_is paced (unanswering s.plan w.flow (pause_parts w.pause w.pause_is).unasked)
 
   record IsStreamOf (k : ℕ) (x : MessageStream) : Type 0 where
     subject : x.mark.subject ≡ k
     pause : x.pause ≡ stream_pause s t k
-    slack : x.slack ≡ response_of s k
+    slack : k ≡ n → x.slack ≡ response_of s k
 
-  of_stream : (f : Frame) (k : ℕ) (group : GroupPlan) (pace : Pace) (x : MessageStream) → paced_stream s t f k group pace (stream_pause s t k) ≡ Some x
-      → IsStreamOf k x
-  of_stream f k group pace x e =
+  of_stream : (f : Frame) (k : ℕ) (group : GroupPlan) (pace : Pace) (time : ℕ) (x : MessageStream) → (k ≡ n → time ≡ pace.jitter)
+      → paced_stream s t f k group pace time (stream_pause s t k) ≡ Some x → IsStreamOf k x
+  of_stream f k group pace time x of_time e =
       let test : Bool = is_in_stream group (is_single (pgn_of f.ident)) in
       elim (cases_Bool test) [
         | inl inside ↦
@@ -81,7 +102,7 @@ module _ (plain : Settings) (w : Watched (judged_by_load plain)) where
             record {
               subject = sym (ap (λ (y : MessageStream). y.mark.subject) same);
               pause = sym (ap (λ (y : MessageStream). y.pause) same);
-              slack = sym (ap (λ (y : MessageStream). y.slack) same);
+              slack = λ is. sym (ap (λ (y : MessageStream). y.slack) same) ∙ ap (sent_within s t k pace) (of_time is) ∙ sent_in_jitter s t k pace;
             }
         | inr other ↦ absurd (none-some x (sym (cond-false test _ None other) ∙ e))
       ]
@@ -89,8 +110,12 @@ module _ (plain : Settings) (w : Watched (judged_by_load plain)) where
   stream_parts : (f : Frame) (k : ℕ) (x : MessageStream) → flow_stream s t f k ≡ Some x → IsStreamOf k x
   unfolding flow_stream
   stream_parts f k x e =
-      option_and_then_some _ (flow_pace s k) x e (λ pace _ e1.
-      option_and_then_some _ (group_in_flow s k) x e1 (λ group _ e2. of_stream f k group pace x e2))
+      option_and_then_some _ (flow_pace s k) x e (λ pace paced e1.
+      option_and_then_some _ (group_in_flow s k) x e1 (λ group _ e2.
+      option_and_then_some _ (queue_time_of s.plan k) x e2 (λ time queued e3.
+      of_stream f k group pace time x (λ same. same_Some time pace.jitter
+      (sym queued ∙ ap (queue_time_of s.plan) same
+      ∙ its_time pace (sym (ap (λ (o : Option FlowPlan). option_and_then (λ (y : FlowPlan). y.pace) o) w.flow_is) ∙ ap (flow_pace s) (sym same) ∙ paced))) e3)))
 
   its_pause : stream_pause s t n ≡ Some w.pause.pause
   unfolding stream_pause
@@ -100,15 +125,19 @@ module _ (plain : Settings) (w : Watched (judged_by_load plain)) where
       → is_in_stream group (is_single (pgn_of f.ident)) ≡ true → flow_stream s t f n ≢ None
   unfolding flow_stream
   has_stream f group at sort none =
-      let (pace, paced) = (pause_parts w.pause w.pause_is).1 in
+      let parts = pause_parts w.pause w.pause_is in
+      let pace : Pace = parts.pace in
+      let paced = parts.paced in
       let of_pace : flow_pace s n ≡ Some pace = ap (λ (o : Option FlowPlan). option_and_then (λ (x : FlowPlan). x.pace) o) w.flow_is ∙ paced in
       let of_group : group_in_flow s n ≡ Some group =
       ap (λ (o : Option FlowPlan). option_and_then (λ (x : FlowPlan). slice_get s.plan.groups.items x.group) o) w.flow_is ∙ at in
-      let stream : Option MessageStream = paced_stream s t f n group pace (stream_pause s t n) in
+      let stream : Option MessageStream = paced_stream s t f n group pace pace.jitter (stream_pause s t n) in
+      let of : Pace → GroupPlan → Option MessageStream =
+      λ p g. option_and_then (λ (ms : ℕ). paced_stream s t f n g p ms (stream_pause s t n)) (queue_time_of s.plan n) in
       let is : flow_stream s t f n ≡ stream =
-      ap (λ (o : Option Pace). option_and_then (λ (x : Pace). option_and_then (λ (g : GroupPlan). paced_stream s t f n g x (stream_pause s t n))
-      (group_in_flow s n)) o) of_pace
-      ∙ ap (λ (o : Option GroupPlan). option_and_then (λ (g : GroupPlan). paced_stream s t f n g pace (stream_pause s t n)) o) of_group in
+      ap (λ (o : Option Pace). option_and_then (λ (p : Pace). option_and_then (of p) (group_in_flow s n)) o) of_pace
+      ∙ ap (λ (o : Option GroupPlan). option_and_then (of pace) o) of_group
+      ∙ ap (λ (o : Option ℕ). option_and_then (λ (ms : ℕ). paced_stream s t f n group pace ms (stream_pause s t n)) o) (its_time pace paced) in
       none-some _ (sym none ∙ is ∙ cond-true (is_in_stream group (is_single (pgn_of f.ident))) _ None sort)
 
   asked_parts : (f : Frame) (k : ℕ) (x : MessageStream) → asked_stream s t f k ≡ Some x → x.pause ≡ None
@@ -177,7 +206,7 @@ module _ (plain : Settings) (w : Watched (judged_by_load plain)) where
         let inner : Moments = inner_of x in
         let newest_is : inner.newest n ≡ Some is.newest =
         ap (λ (g : ℕ → Option Newest). g n) (one_before besides x window).newest ∙ is.newest_is in
-        let slack : x.slack ≡ w.pause.slack = of.slack ∙ sym (pause_parts w.pause w.pause_is).0 in
+        let slack : x.slack ≡ w.pause.slack = of.slack refl ∙ sym (pause_parts w.pause w.pause_is).slack in
         let lagging = lags_since s w is.newest.moment m.since since since_is is.moment late in
         let lower : window.lower ≡ lower_bound w.pause.slack m.since = ap (λ (o : Option ℕ). lower_bound o m.since) slack in
         let by : lag w.pause.pause (newest_moment (inner.newest n)) window.lower ≡ Some lagging.0 =

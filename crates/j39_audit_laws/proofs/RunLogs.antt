@@ -10,8 +10,8 @@ use Rattle.j39_id.specs.declared.line_error.LineError.TheVariants.{Empty, NoHash
 use Rattle.j39_follow.proofs.OneText.{one_interface, one_part}
 use Rattle.j39_follow.specs.LogLines.{IsElsewhere, IsReadPart, NamesInterface, interface_behind}
 use Rattle.j39_tp.specs.declared.packet.Packet.{Packet}
-use Rattle.j39_audit.specs.AuditText.{AuditPast, AuditsLine, AuditsLines, claims_before, nothing_read, passed_by, past_with_frame, with_next_number, past_again}
-use Rattle.j39_audit.specs.AuditText.{past_with_again, noted_newly}
+use Rattle.j39_audit.specs.AuditPasts.{AuditPast, AuditsLine, AuditsLines, claims_before, nothing_read, passed_by, past_with_frame, with_next_number, past_again}
+use Rattle.j39_audit.specs.AuditPasts.{past_with_again, noted_newly}
 use Rattle.j39_audit.specs.Breaks.{breaks, line_time}
 use Rattle.j39_audit.specs.Claiming.{Heard, HeardClaims, broken_off, with_claim, newest_of, is_at}
 use Rattle.j39_audit.specs.Looking.{claims_behind, is_claim}

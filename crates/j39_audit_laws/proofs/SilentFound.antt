@@ -13,7 +13,7 @@ use Rattle.j39_network.specs.declared.plan.timing.Timing.{Timing}
 use Rattle.j39_tp.specs.declared.packet.Packet.{Packet}
 use Rattle.j39_timing.specs.Messages.{frame_end}
 use Rattle.j39_timing.specs.TimedFrames.{Schedule}
-use Rattle.j39_audit.specs.AuditText.{AuditPast, AuditsLines, claims_before, gap_before, moments_with_frame, nothing_read, noted_newly, with_next_number}
+use Rattle.j39_audit.specs.AuditPasts.{AuditPast, AuditsLines, claims_before, gap_before, moments_with_frame, nothing_read, noted_newly, with_next_number}
 use Rattle.j39_audit.specs.Breaks.{line_time}
 use Rattle.j39_audit.specs.Claiming.{HeardClaims, knowledge}
 use Rattle.j39_audit.specs.Counting.{Noted}

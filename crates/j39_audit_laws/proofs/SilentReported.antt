@@ -4,7 +4,8 @@ use Rattle.std.proofs.Common.{inl, inr, refl, arith}
 use Rattle.std.proofs.lemmas.Bool.{cases_eq, cond-false, cond-true, eq-eqb, ne_eqb}
 use Rattle.std.proofs.lemmas.Option.{slice_get_within}
 use Rattle.j39_id.specs.Lines.{lines}
-use Rattle.j39_audit.specs.AuditText.{AuditPast, Look, log_ended, look_at, mark_at}
+use Rattle.j39_audit.specs.AuditPasts.{AuditPast, log_ended}
+use Rattle.j39_audit.specs.AuditText.{Look, look_at, mark_at}
 use Rattle.j39_audit.specs.Counting.{Noted, most_times, reported_at, reported_in, occurrences_of}
 use Rattle.j39_audit.specs.declared.mark.Mark.{Mark}
 use Rattle.j39_audit.specs.declared.mark.Word.TheVariants.{SilentFlow, SilentOrLate}

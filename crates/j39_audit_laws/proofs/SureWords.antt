@@ -11,7 +11,8 @@ use Rattle.j39_id.specs.Lines.{Line}
 use Rattle.j39_id.specs.declared.frame.Frame.{Frame}
 use Rattle.j39_follow.specs.Who.{unit_of_name}
 use Rattle.j39_tp.specs.declared.packet.Packet.{Packet}
-use Rattle.j39_audit.specs.AuditText.{AuditPast, AuditsLines, claims_before, look_at, mark_at, noted_newly, nothing_read, past_with_frame}
+use Rattle.j39_audit.specs.AuditPasts.{AuditPast, AuditsLines, claims_before, noted_newly, nothing_read, past_with_frame}
+use Rattle.j39_audit.specs.AuditText.{look_at, mark_at}
 use Rattle.j39_audit.specs.Breaks.{breaks, line_time}
 use Rattle.j39_audit.specs.Claiming.{HeardClaims, Knowledge, knowledge, sender_at, was_asked_for}
 use Rattle.j39_audit.specs.Counting.{Noted, reported_at, occurrences_of}

@@ -12,8 +12,8 @@ use Rattle.j39_id.specs.declared.line_error.LineError.TheVariants.{Empty, NoHash
 use Rattle.j39_follow.proofs.OneText.{one_interface, one_part, one_time}
 use Rattle.j39_follow.specs.LogLines.{IsElsewhere, IsReadPart, IsTimeText, NamesInterface}
 use Rattle.j39_tp.specs.declared.packet.Packet.{Packet}
-use Rattle.j39_audit.specs.AuditText.{AuditPast, AuditsLine, AuditsLines, bad_line, broadcasts_there, claims_before, counted_for, moments_with_frame}
-use Rattle.j39_audit.specs.AuditText.{nothing_read, passed_by, past_with_frame, with_next_number, past_again, past_with_again, with_again, noted_newly}
+use Rattle.j39_audit.specs.AuditPasts.{AuditPast, AuditsLine, AuditsLines, bad_line, broadcasts_there, claims_before, counted_for, moments_with_frame}
+use Rattle.j39_audit.specs.AuditPasts.{nothing_read, passed_by, past_with_frame, with_next_number, past_again, past_with_again, with_again, noted_newly}
 use Rattle.j39_audit.specs.BegunBroadcasts.{packet_with}
 use Rattle.j39_audit.specs.Breaks.{line_time}
 use Rattle.j39_audit.specs.Claiming.{HeardClaims, with_requests}

@@ -18,7 +18,8 @@ use Rattle.j39_load.specs.LoadFindings.{AsksOfBus}
 use Rattle.j39_load.specs.SentFrames.{Announcing, Asking, Broadcasts, Carrying, First, FrameSources, HasPeriodMs, Held, InSession, IsFrameOf, IsSentEvery}
 use Rattle.j39_load.specs.SentFrames.{Single, Source}
 use Rattle.j39_load.specs.declared.waits.delay.Delay.{Delay}
-use Rattle.j39_audit.specs.AuditText.{Look, line_of_mark, line_reported, log_ended, look_at, mark_at, subject_lines, reported_mark}
+use Rattle.j39_audit.specs.AuditPasts.{log_ended}
+use Rattle.j39_audit.specs.AuditText.{Look, line_of_mark, line_reported, look_at, mark_at, subject_lines, reported_mark}
 use Rattle.j39_audit.specs.Below.{each_below}
 use Rattle.j39_audit.specs.Moments.{damaged_at_once}
 use Rattle.j39_audit.specs.Responses.{response}

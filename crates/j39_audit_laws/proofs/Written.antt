@@ -6,8 +6,10 @@ use Rattle.std.proofs.lemmas.List.{append-nil}
 use Rattle.j39_id.specs.Lines.{Line, lines}
 use Rattle.j39_stream.specs.declared.verdict.Verdict.{Verdict}
 use Rattle.j39_stream.specs.declared.verdict.Verdict.TheVariants.{Done, Findings}
-use Rattle.j39_audit.specs.AuditText.{AuditPast, IsAuditedLog, Look, accusation_count, accusations, accusing_at, accusing_line, counts_of, groups_named}
-use Rattle.j39_audit.specs.AuditText.{line_of_mark, line_reported, lines_reported, log_ended, look_at, subject_count, subject_lines, subjects, text_by}
+use Rattle.j39_audit.specs.AuditPasts.{AuditPast}
+use Rattle.j39_audit.specs.AuditText.{IsAuditedLog, Look, accusation_count, accusations, accusing_at, accusing_line, counts_of, groups_named}
+use Rattle.j39_audit.specs.AuditPasts.{log_ended}
+use Rattle.j39_audit.specs.AuditText.{line_of_mark, line_reported, lines_reported, look_at, subject_count, subject_lines, subjects, text_by}
 use Rattle.j39_audit.specs.AuditText.{reported_mark, word_count, word_lines}
 use Rattle.j39_audit.specs.Below.{each_below, sum_below}
 use Rattle.j39_audit.specs.Settings.{Settings}

@@ -9,7 +9,8 @@ use Rattle.j39_network.specs.declared.plan.Plan.{Plan}
 use Rattle.j39_world.specs.World.{World}
 use Rattle.j39_follow.specs.LogLines.{IsElsewhere, IsReadPart, NamesInterface, interface_behind}
 use Rattle.j39_log_laws.specs.HolderReports.{IsLogOf}
-use Rattle.j39_audit.specs.AuditText.{AuditPast, AuditsLines, look_at, nothing_read, word_lines}
+use Rattle.j39_audit.specs.AuditPasts.{AuditPast, AuditsLines, nothing_read}
+use Rattle.j39_audit.specs.AuditText.{look_at, word_lines}
 use Rattle.j39_audit.specs.Settings.{AreMoving, Settings}
 use Rattle.j39_audit.specs.declared.mark.Word.{Word}
 use Rattle.j39_audit_laws.specs.OwnPart.{EachKeepsItsPart}

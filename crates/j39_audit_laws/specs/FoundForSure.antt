@@ -14,7 +14,8 @@ use Rattle.j39_follow.specs.Who.{unit_of_name}
 use Rattle.j39_stream.specs.declared.verdict.Verdict.{Verdict}
 use Rattle.j39_stream.specs.declared.verdict.Verdict.TheVariants.{Findings}
 use Rattle.j39_tp.specs.declared.packet.Packet.{Packet}
-use Rattle.j39_audit.specs.AuditText.{AuditPast, AuditsLines, IsAuditedLog, accusing_line, look_at, mark_at, nothing_read}
+use Rattle.j39_audit.specs.AuditPasts.{AuditPast, AuditsLines, nothing_read}
+use Rattle.j39_audit.specs.AuditText.{IsAuditedLog, accusing_line, look_at, mark_at}
 use Rattle.j39_audit.specs.Claiming.{HeardClaims}
 use Rattle.j39_audit.specs.Looking.{is_claim}
 use Rattle.j39_audit.specs.Settings.{AreMoving, Settings}

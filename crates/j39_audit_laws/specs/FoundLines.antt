@@ -10,7 +10,8 @@ use Rattle.j39_id.specs.declared.line_error.LineError.TheVariants.{ShortIdent}
 use Rattle.j39_follow.specs.LogLines.{IsElsewhere, IsReadPart, IsTimeText, NamesInterface}
 use Rattle.j39_follow.specs.Who.{unit_of_name}
 use Rattle.j39_tp.specs.declared.packet.Packet.{Packet}
-use Rattle.j39_audit.specs.AuditText.{AuditPast, AuditsLines, claims_before, groups_named, look_at, nothing_read, subjects, with_next_number, word_lines}
+use Rattle.j39_audit.specs.AuditPasts.{AuditPast, AuditsLines, claims_before, nothing_read, with_next_number}
+use Rattle.j39_audit.specs.AuditText.{groups_named, look_at, subjects, word_lines}
 use Rattle.j39_audit.specs.Breaks.{line_time}
 use Rattle.j39_audit.specs.Claiming.{HeardClaims, is_address_of, knowledge, sender_at}
 use Rattle.j39_audit.specs.Counting.{most_times}

@@ -17,7 +17,8 @@ use Rattle.j39_load.specs.KeepsPlan.{KeepsAllOrder, KeepsQueues, KeepsToPlan}
 use Rattle.j39_load.specs.KeptTimes.{IsReportedBound}
 use Rattle.j39_load.specs.SentFrames.{FrameSources, HasPeriodMs, Held, IsMsBehind, IsSessionFrame, IsSingleFrame, RequestToSend}
 use Rattle.j39_load.specs.declared.waits.delay.Delay.{Delay}
-use Rattle.j39_audit.specs.AuditText.{AuditPast, AuditsLines, log_ended, look_at, mark_at, nothing_read}
+use Rattle.j39_audit.specs.AuditPasts.{AuditPast, AuditsLines, log_ended, nothing_read}
+use Rattle.j39_audit.specs.AuditText.{look_at, mark_at}
 use Rattle.j39_audit.specs.Breaks.{line_time}
 use Rattle.j39_audit.specs.Settings.{Settings, logger_error}
 use Rattle.j39_audit.specs.declared.by_load.Bound.TheVariants.{Bus}

@@ -19,7 +19,7 @@ use Rattle.j39_load.specs.AskedFlows.{is_answering}
 use Rattle.j39_load.specs.Clocks.{bit_time}
 use Rattle.j39_load.specs.KeepsPlan.{KeptBus}
 use Rattle.j39_load.specs.SentFrames.{Single, goes_to}
-use Rattle.j39_audit.specs.AuditText.{AuditPast, AuditsLines, nothing_read}
+use Rattle.j39_audit.specs.AuditPasts.{AuditPast, AuditsLines, nothing_read}
 use Rattle.j39_audit.specs.Looking.{IsPacketOf}
 use Rattle.j39_audit.specs.Settings.{Settings}
 use Rattle.j39_audit_laws.specs.ByLoad.{AreOfFlow}

@@ -21,7 +21,8 @@ use Rattle.j39_network.specs.declared.plan.to.To.TheVariants.{All as ToAll, One 
 use Rattle.j39_network.specs.declared.plan.unit_plan.UnitPlan.{UnitPlan}
 use Rattle.j39_follow.specs.Who.{unit_of_name}
 use Rattle.j39_tp.specs.declared.packet.Packet.{Packet}
-use Rattle.j39_audit.specs.AuditText.{AuditPast, AuditsLines, look_at, nothing_read, subject_lines}
+use Rattle.j39_audit.specs.AuditPasts.{AuditPast, AuditsLines, nothing_read}
+use Rattle.j39_audit.specs.AuditText.{look_at, subject_lines}
 use Rattle.j39_audit.specs.Claiming.{HeardClaims, Knowledge, knowledge, sender_at, was_asked_for}
 use Rattle.j39_audit.specs.Looking.{is_claim, is_single, message_sent}
 use Rattle.j39_audit.specs.SentMessages.{SentMessage}

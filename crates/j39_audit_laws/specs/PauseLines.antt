@@ -11,7 +11,7 @@ use Rattle.j39_network.specs.declared.plan.flow_plan.FlowPlan.{FlowPlan}
 use Rattle.j39_network.specs.declared.plan.group_plan.GroupPlan.{GroupPlan}
 use Rattle.j39_follow.specs.LogLines.{IsElsewhere, IsReadPart, NamesInterface, IsTimeText}
 use Rattle.j39_tp.specs.declared.packet.Packet.{Packet}
-use Rattle.j39_audit.specs.AuditText.{AuditPast, counted_for, gap_before, noted_newly}
+use Rattle.j39_audit.specs.AuditPasts.{AuditPast, counted_for, gap_before, noted_newly}
 use Rattle.j39_audit.specs.Breaks.{line_time}
 use Rattle.j39_audit.specs.Claiming.{HeardClaims, knowledge}
 use Rattle.j39_audit.specs.Looking.{is_single}

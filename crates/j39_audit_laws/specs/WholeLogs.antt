@@ -9,7 +9,8 @@ use Rattle.j39_load.specs.KeepsPlan.{IsSingleFlow, KeepsAllOrder, KeepsQueues, K
 use Rattle.j39_load.specs.KeptTimes.{IsReportedBound}
 use Rattle.j39_load.specs.SentFrames.{FrameSources, HasPeriodMs, Held}
 use Rattle.j39_load.specs.declared.waits.delay.Delay.{Delay}
-use Rattle.j39_audit.specs.AuditText.{AuditPast, AuditsLines, log_ended, look_at, nothing_read, subject_lines}
+use Rattle.j39_audit.specs.AuditPasts.{AuditPast, AuditsLines, log_ended, nothing_read}
+use Rattle.j39_audit.specs.AuditText.{look_at, subject_lines}
 use Rattle.j39_audit.specs.Settings.{Settings}
 use Rattle.j39_audit.specs.declared.mark.Word.TheVariants.{NearFlow}
 use Rattle.j39_audit_laws.specs.ByLoad.{AreOfFlow}

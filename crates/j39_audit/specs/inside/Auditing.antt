@@ -8,7 +8,8 @@ use Rattle.j39_log.specs.LineCounting.{AreWithin}
 use Rattle.j39_network.specs.declared.plan.Plan.{Plan}
 use Rattle.j39_stream.specs.declared.verdict.Verdict.{Verdict}
 use Rattle.j39_tp.specs.declared.packet.Packet.{Packet}
-use Rattle.j39_audit.specs.AuditText.{AuditPast, AuditsLines, AuditsShort, Look, TakesFrame, accusation_count, flow_seen, request_seen, unit_seen, is_of_asking, is_of_broadcasts, is_of_moments, log_ended, noted_newly, nothing_read, text_by, verdict_by, past_with_frame, is_of_load, mark_by_bus}
+use Rattle.j39_audit.specs.AuditPasts.{AuditPast, AuditsLines, AuditsShort, TakesFrame, log_ended, noted_newly, nothing_read, past_with_frame}
+use Rattle.j39_audit.specs.AuditText.{Look, accusation_count, flow_seen, request_seen, unit_seen, is_of_asking, is_of_broadcasts, is_of_moments, text_by, verdict_by, is_of_load, mark_by_bus}
 use Rattle.j39_audit.specs.Asking.{with_sign_of}
 use Rattle.j39_audit.specs.BegunBroadcasts.{broadcasts_behind, packet_with}
 use Rattle.j39_audit.specs.Below.{each_below}

@@ -1,7 +1,7 @@
 use Rattle.std.proofs.Common.{refl, sym, ap, subst, arith}
 use Rattle.j39_log.specs.LineCounting.{AreWithin}
 use Rattle.j39_log.specs.declared.line_counts.LineCounts.{LineCounts}
-use Rattle.j39_audit.specs.AuditText.{nothing_read}
+use Rattle.j39_audit.specs.AuditPasts.{nothing_read}
 use Rattle.j39_audit.proofs.audit_log.AuditLog.new.Goals as goal
 
 pub returns-clause-nothing : goal.returns-clause-nothing

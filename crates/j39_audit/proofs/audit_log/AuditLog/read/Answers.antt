@@ -3,7 +3,7 @@ use Rattle.std.proofs.lemmas.List.{length_push}
 use Rattle.std.proofs.lemmas.Result.{IfOk-weaker}
 use Rattle.j39_id.specs.Lines.{Line, Short as ShortLine, Long, yields}
 use Rattle.j39_id.specs.declared.cut.Cut.{Cut}
-use Rattle.j39_audit.specs.AuditText.{AuditPast, AuditsShort, bad_line, nothing_read, with_next_number}
+use Rattle.j39_audit.specs.AuditPasts.{AuditPast, AuditsShort, bad_line, nothing_read, with_next_number}
 use Rattle.j39_audit.specs.Settings.{Settings}
 use Rattle.j39_audit.specs.declared.basis.Basis.{Basis}
 use Rattle.j39_audit.specs.inside.Auditing.{HasAudited, RecallsAudit}

@@ -1,7 +1,7 @@
 use Rattle.std.proofs.Common.{sym, subst}
 use Rattle.std.proofs.lemmas.Result.{IfOk-weaker}
 use Rattle.j39_id.specs.declared.line_error.LineError.{LineError}
-use Rattle.j39_audit.specs.AuditText.{passed_by}
+use Rattle.j39_audit.specs.AuditPasts.{passed_by}
 use Rattle.j39_audit.specs.inside.Auditing.{RecallsAudit}
 use Rattle.j39_audit.specs.inside.Recalling.{settings_of}
 use Rattle.j39_audit.proofs.audit_log.AuditLog.take_fault.Goals as goal

@@ -2,7 +2,7 @@ use Rattle.std.proofs.Common.{◌≡◌, Option, inl, inr, true, false, refl, sy
 use Rattle.std.proofs.lemmas.Result.{IfOk-weaker}
 use Rattle.std.specs.Option.{option_copied}
 use Rattle.j39_audit.specs.Again.{is_again}
-use Rattle.j39_audit.specs.AuditText.{past_with_again, past_with_frame}
+use Rattle.j39_audit.specs.AuditPasts.{past_with_again, past_with_frame}
 use Rattle.j39_audit.specs.declared.again.TakenFrame.{TakenFrame}
 use Rattle.j39_audit.specs.declared.basis.Basis.{Basis}
 use Rattle.j39_audit.specs.inside.Recalling.{settings_of}

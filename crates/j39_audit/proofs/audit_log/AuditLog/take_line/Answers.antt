@@ -6,7 +6,7 @@ use Rattle.j39_id.specs.FrameLine.{HasLineFault, Spells}
 use Rattle.j39_id.specs.declared.frame.Frame.{Frame}
 use Rattle.j39_id.specs.declared.line_error.LineError.{LineError}
 use Rattle.j39_network.specs.declared.plan.Plan.{Plan}
-use Rattle.j39_audit.specs.AuditText.{AuditPast, TakesFrame, passed_by}
+use Rattle.j39_audit.specs.AuditPasts.{AuditPast, TakesFrame, passed_by}
 use Rattle.j39_audit.specs.Breaks.{line_time}
 use Rattle.j39_audit.specs.declared.basis.Basis.{Basis}
 use Rattle.j39_audit.specs.inside.Recalling.{settings_of}

@@ -2,7 +2,7 @@ use Rattle.std.proofs.Common.{ℕ, List, Option, ap, ◌∙◌}
 use Rattle.std.proofs.lemmas.Result.{IfOk-weaker}
 use Rattle.std.specs.Option.{option_copied}
 use Rattle.j39_follow.specs.LogLines.{interface_behind}
-use Rattle.j39_audit.specs.AuditText.{past_again}
+use Rattle.j39_audit.specs.AuditPasts.{past_again}
 use Rattle.j39_audit.specs.inside.Recalling.{settings_of}
 use Rattle.j39_audit.proofs.Hearing.{again_interface, follows_still}
 use Rattle.j39_audit.proofs.audit_log.AuditLog.take_line_again.Goals as goal

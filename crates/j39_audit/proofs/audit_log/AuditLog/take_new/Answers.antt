@@ -6,7 +6,7 @@ use Rattle.j39_log.specs.declared.line_counts.LineCounts.{LineCounts}
 use Rattle.j39_follow.specs.LogLines.{interface_behind}
 use Rattle.j39_follow.specs.inside.FollowedSoFar.{interface_of}
 use Rattle.j39_audit.specs.Again.{taken_frame}
-use Rattle.j39_audit.specs.AuditText.{past_with_frame}
+use Rattle.j39_audit.specs.AuditPasts.{past_with_frame}
 use Rattle.j39_audit.specs.declared.tally.Sighting.{Sighting}
 use Rattle.j39_audit.proofs.Hearing.{follows_still}
 use Rattle.j39_audit.proofs.audit_log.AuditLog.take_new.Goals as goal

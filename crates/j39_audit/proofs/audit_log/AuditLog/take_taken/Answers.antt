@@ -1,5 +1,5 @@
 use Rattle.std.proofs.Common.{◌≡◌, ℕ, Option, Some, sym, subst, ◌∙◌}
-use Rattle.j39_audit.specs.AuditText.{past_again, with_again}
+use Rattle.j39_audit.specs.AuditPasts.{past_again, with_again}
 use Rattle.j39_audit.specs.Claiming.{HeardClaims, with_requests}
 use Rattle.j39_audit.specs.declared.again.TakenFrame.{TakenFrame}
 use Rattle.j39_audit.specs.declared.basis.Basis.{Basis}

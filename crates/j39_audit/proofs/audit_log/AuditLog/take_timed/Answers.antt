@@ -6,7 +6,7 @@ use Rattle.j39_log.specs.LogFrames.{IsPacket}
 use Rattle.j39_tp.specs.Packets.{InRange}
 use Rattle.j39_tp.specs.declared.packet.Packet.{Packet}
 use Rattle.j39_audit.specs.Asking.{asked_behind, asking_behind}
-use Rattle.j39_audit.specs.AuditText.{AuditPast, claims_before, claims_with_frame, gap_before, past_with_frame}
+use Rattle.j39_audit.specs.AuditPasts.{AuditPast, claims_before, claims_with_frame, gap_before, past_with_frame}
 use Rattle.j39_audit.specs.BegunBroadcasts.{broadcasts_before}
 use Rattle.j39_audit.specs.Breaks.{breaks, newest_behind}
 use Rattle.j39_audit.specs.Claiming.{HeardClaims, Knowledge, broken_off, come_to, knowledge, with_requests}

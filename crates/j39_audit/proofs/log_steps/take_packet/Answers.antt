@@ -3,7 +3,7 @@ use Rattle.std.proofs.lemmas.Result.{IfOk-weaker}
 use Rattle.j39_audit.specs.Moments.{with_packet_stream}
 use Rattle.j39_audit.specs.declared.streams.MessageStream.{MessageStream}
 use Rattle.j39_audit.specs.inside.Recalling.{RecallsMoments, settings_of}
-use Rattle.j39_audit.proofs.audit_log.take_packet.Goals as goal
+use Rattle.j39_audit.proofs.log_steps.take_packet.Goals as goal
 
 pub returns-clause-moments : goal.returns-clause-moments
 returns-clause-moments c =

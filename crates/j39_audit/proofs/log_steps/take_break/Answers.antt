@@ -1,7 +1,7 @@
 use Rattle.std.proofs.Common.{Bool, sym, subst}
 use Rattle.j39_audit.specs.Claiming.{broken_off}
 use Rattle.j39_audit.specs.inside.Recalling.{KnowsClaims, settings_of}
-use Rattle.j39_audit.proofs.audit_log.take_break.Goals as goal
+use Rattle.j39_audit.proofs.log_steps.take_break.Goals as goal
 
 pub returns-then-broken-clause-known : goal.returns-then-broken-clause-known
 returns-then-broken-clause-known c = λ claims knows.

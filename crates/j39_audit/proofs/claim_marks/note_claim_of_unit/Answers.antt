@@ -5,7 +5,7 @@ use Rattle.j39_audit.specs.declared.mark.Mark.{Mark}
 use Rattle.j39_audit.specs.declared.mark.Word.TheVariants.{Urgent}
 use Rattle.j39_audit.specs.inside.Recalling.{Notes}
 use Rattle.j39_audit.proofs.Noting.{notes_both}
-use Rattle.j39_audit.proofs.frame_marks.note_claim_of_unit.Goals as goal
+use Rattle.j39_audit.proofs.claim_marks.note_claim_of_unit.Goals as goal
 
 pub returns : goal.returns
 returns c =
