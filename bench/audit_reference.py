@@ -5,6 +5,7 @@ from __future__ import annotations
 from dataclasses import dataclass, field
 
 from audit_plans import ALL, CLAIM, CLAIMS_ASKED, FRAME_BYTES, NULL, PACKETS, POOL, REQUEST, SECOND, TRANSPORT, Flow, Frame, Plan, is_announcement, whole
+from audit_sessions import ToldSessions
 
 BIT = 4
 LONGEST_ANSWER_MS = 250
@@ -81,6 +82,7 @@ class Reference:
         self.asked: dict[int, tuple[int, int]] = {}  # when the request for claims to a unit ended at the latest, and its line
         self.taken: tuple[int, Frame, list[int]] | None = None  # the frame before, if no other line stands between, with its line and the flows of which it may be
         self.again = 0  # how many frames stand in the log again
+        self.sessions = ToldSessions([unit.label for unit in plan.units])
 
     def longest(self, ms: int) -> int:
         return whole(1001 * ms * (SECOND + self.plan.drift), SECOND)
@@ -136,7 +138,7 @@ class Reference:
 
     def drop(self, sender: int, frame: Frame) -> None:
         """A message that no flow brings deviates, where its number is a group's: of the flows with this number nothing is awaited any more."""
-        number = int.from_bytes(frame.data[5:8], "little") if frame.pgn == TRANSPORT and is_announcement(frame) else frame.pgn
+        number = int.from_bytes(frame.data[5:8], "little") if is_announcement(frame) else frame.pgn
         for place, flow in enumerate(self.plan.flows):
             if flow.sender == sender and self.plan.groups[flow.group].pgn == number:
                 for bound in (BY_BUS, BY_LOAD):
@@ -165,6 +167,7 @@ class Reference:
 
     def take_bad(self) -> None:
         self.asked = {}
+        self.sessions.sessions.forget()
         self.end_all()
         self.take_skipped()
 
@@ -187,6 +190,8 @@ class Reference:
         claimant = next((place for place, unit in enumerate(self.plan.units) if is_claim and unit.name() == int.from_bytes(frame.data, "little")), None)
         sender = self.addresses.sender(frame.source) if not is_claim and frame.source < NULL else None
         flows = [] if sender is None else self.flows_of(sender, frame)
+        if not self.is_part:
+            self.sessions.take(line, frame, sender)
         if frame.time is not None:
             self.mark_idle(frame.time, len(frame.data), is_gap)
             if is_claim:
@@ -228,6 +233,8 @@ class Reference:
             self.earliest = {}
         self.greatest = time if time is None or is_back or self.greatest is None else max(self.greatest, time)
         self.last = time
+        if is_gap:
+            self.sessions.sessions.forget()
         if is_back or is_quiet:
             self.addresses.recent = []
         return is_gap
@@ -271,7 +278,7 @@ class Reference:
     def take_broadcast(self, line: int, time: int, frame: Frame, unit: int, flows: list[int]) -> None:
         """A planned broadcast begins with what announces it, and then has packets: all flows of the plan have a period."""
         data, latest = frame.data, time + self.stamps
-        if frame.pgn == TRANSPORT and is_announcement(frame):
+        if is_announcement(frame) and frame.to == ALL:
             self.begun.pop(unit, None)
             if flows:
                 self.begun[unit] = data[3], latest, line
@@ -288,9 +295,9 @@ class Reference:
         if number in (CLAIM, REQUEST, PACKETS):
             return []
         if number == TRANSPORT:
-            size, number = data[1] | data[2] << 8, int.from_bytes(data[5:8], "little")
             if not is_announcement(frame):
                 return []
+            size, number = data[1] | data[2] << 8, int.from_bytes(data[5:8], "little")
         is_single = frame.pgn != TRANSPORT
         is_broadcast = is_single and frame.is_broadcast()
 
@@ -342,6 +349,7 @@ class Reference:
         found = [f"{word} unit {self.plan.units[place].label}{f' at {self.places[place]}' if word == 'address' else ''} times {len(told)} first {told[0][0]}"
                  for word, place, told in claims if told]
         found += [f"deaf unit {label} times {len(told)} first {told[0][0]}" for label, told in deaf]
+        found += self.sessions.lines()
         flows = [f"{at} {self.plan.groups[it.group].label} {self.plan.units[it.sender].label} {self.plan.receiver(it)}" for at, it in enumerate(self.plan.flows, 1)]
         for first, kind in (("near", "flow"), ("near", "packets"), ("silent", "flow"), ("silent", "packets")):
             for place, name in enumerate([unit.label for unit in self.plan.units] if kind == "packets" else flows):

@@ -1,0 +1,5 @@
+pub mod Answered
+pub mod Fresh
+pub mod Recalled
+pub mod Steps
+pub mod Told
