@@ -160,7 +160,7 @@ missing_newest : (k : ℕ) (p q : PairSessions) → q.newest ≡ p.newest → Is
 unfolding IsMissing
 missing_newest k p q e is = ap (λ (t : Session). get_or t.sent k true) e ∙ is
 
-sent_of_cleared : (c : Clearance) (s : Session) → (cleared c s).sent ≡ s.sent
+pub sent_of_cleared : (c : Clearance) (s : Session) → (cleared c s).sent ≡ s.sent
 sent_of_cleared c s = elim (nat_le 1 c.first) as (λ b. (cond b (record s { greatest = max s.greatest (last_cleared c s.count) }) s).sent ≡ s.sent) [ true ↦ refl | false ↦ refl ]
 
 missing_cleared : (k : ℕ) (c : Clearance) (p : PairSessions) → IsMissing k p → IsMissing k (behind (Clears c) p)

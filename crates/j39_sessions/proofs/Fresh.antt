@@ -40,7 +40,7 @@ fresh_opened i bytes s right e =
     eqb-true (slice_index bytes 3) (packets_of (size_in bytes)) (second_holds (is_size (size_in bytes)) (slice_index bytes 3 == packets_of (size_in bytes)) has) in
     subst IsFresh same (record { greatest = refl; sent = refl; count = subst (λ n. n < 256) (sym count) (few_packets (size_in bytes) size) })
 
-right_of : (b : Bool) → not b ≡ false → b ≡ true
+pub right_of : (b : Bool) → not b ≡ false → b ≡ true
 right_of true e = refl
 right_of false e = sym e
 

@@ -3,7 +3,7 @@ use Rattle.std.proofs.Common.{◌≡◌, ◌==◌, ◌&&◌, ℕ, Bool, true, fa
 use Rattle.j39_id.specs.declared.frame.Frame.{Frame}
 use Rattle.j39_id.specs.declared.ident.Ident.{Ident}
 use Rattle.j39_sessions.specs.SessionFrames.{role_of}
-use Rattle.j39_sessions.specs.SessionLaws.{AnnouncesNothing, Each, IsCts, IsRts, IsWay, sessions_after}
+use Rattle.j39_sessions.specs.SessionLaws.{AnnouncesNothing, Each, IsCts, IsPacket, IsRts, IsWay, sessions_after}
 use Rattle.j39_sessions.specs.Sessions.{AllSessions, behind, fault_at, fault_of, goes_back, is_of_session, pair_behind, receiver_by, sender_by, sessions_behind, with_session}
 use Rattle.j39_sessions.specs.declared.pair_sessions.PairSessions.{PairSessions}
 use Rattle.j39_sessions.specs.declared.role.Clearance.{Clearance}
@@ -177,6 +177,22 @@ found_cts P Q from to f c s cts leads found =
     record {
       pair = behind r found.pair;
       is = subst (λ (q : Role). cond (is_of_session f.ident q from to) (pair_behind q (s from to)) (s from to) ≡ Some (behind r found.pair)) (sym cts.1)
+          (ap (λ (b : Bool). cond b (pair_behind r (s from to)) (s from to)) there ∙ ap (pair_behind r) found.is);
+      holds = leads found.pair found.holds;
+    }
+
+-- ---- a packet
+
+pub found_packet : (P Q : PairSessions → Type 0) (from to : ℕ) (f : Frame) (k : ℕ) (s : AllSessions) → IsPacket from to k f
+    → ((p : PairSessions) → P p → Q (behind (Carries k) p)) → Found P (s from to) → Found Q (sessions_behind f s from to)
+unfolding sessions_behind
+found_packet P Q from to f k s packet leads found =
+    let r : Role = Carries k in
+    let ends = forward_ends from to f r refl packet.0 in
+    let there : is_of_session f.ident r from to ≡ true = is_of_ends f.ident r from to (sym ends.0) (sym ends.1) in
+    record {
+      pair = behind r found.pair;
+      is = subst (λ (q : Role). cond (is_of_session f.ident q from to) (pair_behind q (s from to)) (s from to) ≡ Some (behind r found.pair)) (sym packet.1)
           (ap (λ (b : Bool). cond b (pair_behind r (s from to)) (s from to)) there ∙ ap (pair_behind r) found.is);
       holds = leads found.pair found.holds;
     }

@@ -162,7 +162,7 @@ record IsReached (n : ℕ) (p : PairSessions) : Type 0 where
 reached_kept : (n : ℕ) (from to : ℕ) (f : Frame) → Keeps (IsReached n) from to f
 reached_kept n from to f = λ p old e. let g = grows_behind (role_of f) p in let o = old.reached in record { reached = omega arith }
 
-like_kept : (opened : Session) (from to : ℕ) (f : Frame) → Keeps (λ p. IsLike opened p.newest) from to f
+pub like_kept : (opened : Session) (from to : ℕ) (f : Frame) → Keeps (λ p. IsLike opened p.newest) from to f
 like_kept opened from to f = λ p old e. like_more opened p.newest (behind (role_of f) p).newest old (like_behind (role_of f) p)
 
 reaches : (c : Clearance) (p : PairSessions) → c.group ≡ p.newest.group → 1 ≤ c.first → last_cleared c p.newest.count ≤ (behind (Clears c) p).newest.greatest

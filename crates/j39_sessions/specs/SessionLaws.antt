@@ -1,9 +1,9 @@
 -- Laws of what frames do that they mustn't, in words of the frames: an RTS, and what came behind it.
-use Rattle.std.specs.Prelude.{◌≡◌, ℕ, ◌<◌, ◌≤◌, true, false, List, [], ◌∷◌, ◌++◌, Some, None}
+use Rattle.std.specs.Prelude.{◌≡◌, ◌≢◌, ◌⊎◌, ℕ, ◌<◌, ◌≤◌, true, false, List, [], ◌∷◌, ◌++◌, Some, None}
 use Rattle.j39_id.specs.declared.frame.Frame.{Frame}
-use Rattle.j39_sessions.specs.SessionFrames.{role_of}
+use Rattle.j39_sessions.specs.SessionFrames.{announces_rightly, role_of}
 use Rattle.j39_sessions.specs.Sessions.{AllSessions, fault_at, is_cleared, last_cleared, sessions_behind}
-use Rattle.j39_sessions.specs.declared.fault.Fault.TheVariants.{Grant, Packet, Acknowledged}
+use Rattle.j39_sessions.specs.declared.fault.Fault.TheVariants.{Announcement, Grant, Packet, Acknowledged}
 use Rattle.j39_sessions.specs.declared.pair_sessions.PairSessions.{PairSessions}
 use Rattle.j39_sessions.specs.declared.role.Clearance.{Clearance}
 use Rattle.j39_sessions.specs.declared.role.Receipt.{Receipt}
@@ -21,6 +21,11 @@ sessions_after (f ∷ fs) s = sessions_after fs (sessions_behind f s)
 abbrev pub Each : (Frame → Type 0) → List Frame → Type 0
 Each P [] = Unit {0}
 Each P (f ∷ fs) = P f × Each P fs
+
+-- this holds of one of them
+abbrev pub AnyOf : (Frame → Type 0) → List Frame → Type 0
+AnyOf P [] = ⊥
+AnyOf P (f ∷ fs) = P f ⊎ AnyOf P fs
 
 -- a frame from an address to another
 pub record IsWay (source to : ℕ) (f : Frame) : Type 0 where
@@ -46,6 +51,15 @@ IsReceipt from to r f = IsWay to from f × (role_of f ≡ Acknowledges r)
 -- a packet of it
 abbrev pub IsPacket : ℕ → ℕ → ℕ → Frame → Type 0
 IsPacket from to number f = IsWay from to f × (role_of f ≡ Carries number)
+
+-- ---- announcements
+
+-- one that isn't right is told, whatever came before, and no other frame is told so
+abbrev pub WrongAnnouncementsAreTold : Type 0
+WrongAnnouncementsAreTold = (f : Frame) (s : AllSessions) → announces_rightly f ≡ false → fault_at f s ≡ Some Announcement
+
+abbrev pub RightAnnouncementsArent : Type 0
+RightAnnouncementsArent = (f : Frame) (s : AllSessions) → announces_rightly f ≡ true → fault_at f s ≢ Some Announcement
 
 -- ---- packets
 
@@ -78,6 +92,27 @@ ClearedPacketsArent = (s : AllSessions) (from to : ℕ) (rts : Frame) (opened : 
     → fault_at packet (sessions_after (rts ∷ first ++ cts ∷ later) s) ≡ None
 
 -- ---- CTSs and acknowledgements
+
+-- a CTS that is right by the last RTS isn't told
+abbrev pub RightGrantsArent : Type 0
+RightGrantsArent = (s : AllSessions) (from to : ℕ) (rts : Frame) (opened : Session) (since : List Frame) (cts : Frame) (c : Clearance)
+    → IsRts from to opened rts
+    → Each (AnnouncesNothing from to) since
+    → IsCts from to c cts
+    → is_cleared c opened ≡ true
+    → fault_at cts (sessions_after (rts ∷ since) s) ≡ None
+
+-- nor is an acknowledgement of its size and count, where each of its packets was sent since
+abbrev pub RightReceiptsArent : Type 0
+RightReceiptsArent = (s : AllSessions) (from to : ℕ) (rts : Frame) (opened : Session) (since : List Frame) (receipt : Frame) (r : Receipt)
+    → IsRts from to opened rts
+    → Each (AnnouncesNothing from to) since
+    → IsReceipt from to r receipt
+    → r.group ≡ opened.group
+    → r.size ≡ opened.size
+    → r.count ≡ opened.count
+    → ((k : ℕ) → 1 ≤ k → k ≤ opened.count → AnyOf (IsPacket from to k) since)
+    → fault_at receipt (sessions_after (rts ∷ since) s) ≡ None
 
 -- a CTS isn't right by the RTS that was the last one before this
 abbrev pub IsntByTheOneBefore : ℕ → ℕ → AllSessions → Clearance → Type 0

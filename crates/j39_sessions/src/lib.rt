@@ -11,7 +11,10 @@ mod session;
 mod sessions;
 
 pub use fault::Fault;
-pub use laws::{uncleared_packets_are_told, wrong_answers_are_told};
+pub use laws::{
+    right_answers_are_not_told, uncleared_packets_are_told, wrong_announcements_are_told,
+    wrong_answers_are_told,
+};
 pub use opening::announces_rightly;
 pub use pair_sessions::{Before, PairSessions};
 pub use role::{Clearance, Receipt, Role};
