@@ -1,5 +1,6 @@
 -- What is told of answers of a receiver, behind a CTS that is right by the last RTS alone.
-use Rattle.std.proofs.Common.{◌≡◌, zero, suc, ◌+◌, ◌-◌, ◌<◌, ◌≤◌, ◌==◌, ◌&&◌, ◌||◌, ℕ, Bool, true, false, cond, not, List, [], ◌∷◌, ◌++◌, replicate, take, drop, get_or, Option, Some, None, refl, sym, ap, ◌∙◌, subst, arith, eq-eqb}
+use Rattle.std.proofs.Common.{◌≡◌, zero, suc, ◌+◌, ◌-◌, ◌<◌, ◌≤◌, ◌==◌, ◌&&◌, ◌||◌, ℕ, Bool, true, false, cond, not, List, [], ◌∷◌, ◌++◌, replicate, take, drop}
+use Rattle.std.proofs.Common.{get_or, Option, Some, None, refl, sym, ap, ◌∙◌, subst, arith, eq-eqb}
 use Rattle.std.proofs.lemmas.Bool.{false≢true}
 use Rattle.std.proofs.lemmas.List.{get_or-replicate, get_or-set_other}
 use Rattle.std.proofs.Common.{max, nat_le}
@@ -7,7 +8,8 @@ use Rattle.std.specs.List.{list_all}
 use Rattle.j39_id.specs.declared.frame.Frame.{Frame}
 use Rattle.j39_sessions.specs.SessionFrames.{numbers, role_of}
 use Rattle.j39_sessions.specs.SessionLaws.{Each, IsCts, IsPacket, IsReceipt, IsTaken, IsntByTheOneBefore, sessions_after}
-use Rattle.j39_sessions.specs.Sessions.{AllSessions, behind, cleared, fault_at, fault_if, fault_in, goes_back, has_come, is_acknowledged, is_cleared, is_it_acknowledged, is_it_cleared, last_cleared, sessions_behind, stays, with_clearance, with_receipt, with_session}
+use Rattle.j39_sessions.specs.Sessions.{AllSessions, behind, cleared, fault_at, fault_if, fault_in, goes_back, has_come, is_acknowledged, is_cleared}
+use Rattle.j39_sessions.specs.Sessions.{is_it_acknowledged, is_it_cleared, last_cleared, sessions_behind, stays, with_clearance, with_receipt, with_session}
 use Rattle.j39_sessions.specs.declared.fault.Fault.{Fault}
 use Rattle.j39_sessions.specs.declared.fault.Fault.TheVariants.{Grant, Acknowledged}
 use Rattle.j39_sessions.specs.declared.pair_sessions.Before.{Before}
@@ -20,7 +22,8 @@ use Rattle.j39_sessions.specs.declared.role.Role.TheVariants.{Begins, Breaks, Cl
 use Rattle.j39_sessions.specs.declared.session.Session.{Session}
 use Rattle.j39_sessions.proofs.Fresh.{begins_fresh}
 use Rattle.j39_sessions.proofs.Recalled.{first_holds}
-use Rattle.j39_sessions.proofs.Steps.{Found, Keeps, after-append, backward_ends, each_first, each_here, each_of, each_second, forward_way, found_cts, found_rts, steps, told_here}
+use Rattle.j39_sessions.proofs.Steps.{Found, Keeps, after-append, backward_ends, each_first, each_here, each_of, each_second, forward_way, found_cts, found_rts}
+use Rattle.j39_sessions.proofs.Steps.{steps, told_here}
 use Rattle.j39_sessions.proofs.Told.{IsLike, both_false, both_true, cleared_alike, like_behind, like_it, like_more, newest_behind_receipt, newest_of_begun}
 
 -- ---- the session before the newest one
@@ -35,7 +38,8 @@ left_if true old = gone
 left_if false old = as_it_is
 
 left_receipt : (r : Receipt) (p : PairSessions) → IsLeft p.before (with_receipt r p).before
-left_receipt r p = elim (is_acknowledged r p.newest || not (is_it_acknowledged r p.before)) as (λ b. IsLeft p.before (cond b (record p { is_over = true }) (record p { before = NoneBefore })).before)
+left_receipt r p = elim (is_acknowledged r p.newest || not (is_it_acknowledged r p.before)) as
+    (λ b. IsLeft p.before (cond b (record p { is_over = true }) (record p { before = NoneBefore })).before)
     [ true ↦ as_it_is | false ↦ gone ]
 
 left_behind : (r : Role) (p : PairSessions) → IsLeft p.before (behind r p).before
@@ -83,13 +87,15 @@ known_isnt : (opened : Session) (c : Clearance) (known : Option PairSessions) �
 known_isnt opened c None isnt = refl
 known_isnt opened c (Some p) isnt = elim p.is_over as (λ b. stays c (cond b NoneBefore (Known p.newest)) ≡ false) [ true ↦ refl | false ↦ isnt p refl ]
 
-begins_open : (from to : ℕ) (s : AllSessions) (opened : Session) (c : Clearance) → IsntByTheOneBefore from to s c → IsOpen opened c (with_session opened (s from to))
+begins_open : (from to : ℕ) (s : AllSessions) (opened : Session) (c : Clearance) → IsntByTheOneBefore from to s c
+    → IsOpen opened c (with_session opened (s from to))
 begins_open from to s opened c isnt = record {
   like = subst (IsLike opened) (sym (newest_of_begun opened (s from to))) (like_it opened);
   isnt = known_isnt opened c (s from to) isnt;
 }
 
-alone_if : (old : Before) (g a b : Bool) (p q : PairSessions) → g ≡ true → a ≡ true → b ≡ false → p.before ≡ cond (a && not b) NoneBefore old → (cond g p q).before ≡ NoneBefore
+alone_if : (old : Before) (g a b : Bool) (p q : PairSessions) → g ≡ true → a ≡ true → b ≡ false → p.before ≡ cond (a && not b) NoneBefore old
+    → (cond g p q).before ≡ NoneBefore
 alone_if old g a b p q ge ae be is =
     ap (λ (t : Bool). (cond t p q).before) ge ∙ is ∙ ap (λ (t : Bool). cond (t && not b) NoneBefore old) ae ∙ ap (λ (t : Bool). cond (not t) NoneBefore old) be
 
@@ -106,7 +112,8 @@ ends_alone opened c right p is =
 both_kept : (P Q : PairSessions → Type 0) (from to : ℕ) (f : Frame) → Keeps P from to f → Keeps Q from to f → Keeps (λ p. P p × Q p) from to f
 both_kept P Q from to f one two = λ p old e. (one p old.0 e, two p old.1 e)
 
-taken : (Q : PairSessions → Type 0) (from to : ℕ) (s : AllSessions) (rts : Frame) (opened : Session) (first : List Frame) (cts : Frame) (c : Clearance) (later : List Frame)
+taken : (Q : PairSessions → Type 0) (from to : ℕ) (s : AllSessions) (rts : Frame) (opened : Session) (first : List Frame) (cts : Frame) (c : Clearance)
+    (later : List Frame)
     → IsTaken from to s rts opened first cts c later
     → Q (with_session opened (s from to)) → Each (Keeps Q from to) first → ((p : PairSessions) → Q p → Q (behind (Clears c) p)) → Each (Keeps Q from to) later
     → Found (λ p. IsAlone opened p × Q p) (sessions_after (rts ∷ first ++ cts ∷ later) s from to)
@@ -161,7 +168,8 @@ unfolding IsMissing
 missing_newest k p q e is = ap (λ (t : Session). get_or t.sent k true) e ∙ is
 
 pub sent_of_cleared : (c : Clearance) (s : Session) → (cleared c s).sent ≡ s.sent
-sent_of_cleared c s = elim (nat_le 1 c.first) as (λ b. (cond b (record s { greatest = max s.greatest (last_cleared c s.count) }) s).sent ≡ s.sent) [ true ↦ refl | false ↦ refl ]
+sent_of_cleared c s = elim (nat_le 1 c.first) as (λ b. (cond b (record s { greatest = max s.greatest (last_cleared c s.count) }) s).sent
+    ≡ s.sent) [ true ↦ refl | false ↦ refl ]
 
 missing_cleared : (k : ℕ) (c : Clearance) (p : PairSessions) → IsMissing k p → IsMissing k (behind (Clears c) p)
 unfolding IsMissing
@@ -188,7 +196,8 @@ not_all (x ∷ xs) zero m lt e = absurd (omega arith)
 not_all (x ∷ xs) (suc n) zero lt e = ap (λ (b : Bool). b && list_all (λ (b : Bool). b) (take n xs)) e
 not_all (x ∷ xs) (suc n) (suc m) lt e = both_false x (list_all (λ (b : Bool). b) (take n xs)) (not_all xs n m (omega arith) e)
 
-behind_first : (xs : List Bool) (count k : ℕ) → 1 ≤ k → k ≤ count → get_or xs k true ≡ false → list_all (λ (b : Bool). b) (take (count + 1 - 1) (drop 1 xs)) ≡ false
+behind_first : (xs : List Bool) (count k : ℕ) → 1 ≤ k → k ≤ count → get_or xs k true ≡ false → list_all (λ (b : Bool). b) (take (count + 1 - 1) (drop 1 xs))
+    ≡ false
 behind_first [] count k least most e = absurd (false≢true (sym e))
 behind_first (x ∷ xs) count zero least most e = absurd (omega arith)
 behind_first (x ∷ xs) count (suc k) least most e = not_all xs (count + 1 - 1) k (omega arith) e
@@ -202,19 +211,23 @@ isnt_acknowledged r s is =
     both_false (r.group == s.group) (r.size == s.size && (r.count == s.count && has_come s))
     (both_false (r.size == s.size) (r.count == s.count && has_come s) (both_false (r.count == s.count) (has_come s) is))
 
-begins_missing : (k : ℕ) (opened : Session) (known : Option PairSessions) → k < numbers → opened.sent ≡ replicate numbers false → IsMissing k (with_session opened known)
+begins_missing : (k : ℕ) (opened : Session) (known : Option PairSessions) → k < numbers → opened.sent ≡ replicate numbers false
+    → IsMissing k (with_session opened known)
 unfolding IsMissing
 begins_missing k opened known lt fresh =
-    ap (λ (t : Session). get_or t.sent k true) (newest_of_begun opened known) ∙ ap (λ (xs : List Bool). get_or xs k true) fresh ∙ get_or-replicate numbers k false true lt
+    ap (λ (t : Session). get_or t.sent k true) (newest_of_begun opened known) ∙ ap
+    (λ (xs : List Bool). get_or xs k true) fresh ∙ get_or-replicate numbers k false true lt
 
 early_receipt : (opened : Session) (r : Receipt) (p : PairSessions) → IsAlone opened p → r.group ≡ opened.group → has_come p.newest ≡ false
     → fault_in (Acknowledges r) p ≡ Some Acknowledged
 early_receipt opened r p is same early =
     told_if ((r.group == p.newest.group) && not (is_acknowledged r p.newest || is_it_acknowledged r p.before)) Acknowledged
-    (both_true (r.group == p.newest.group) (not (is_acknowledged r p.newest || is_it_acknowledged r p.before)) (eq-eqb r.group p.newest.group (same ∙ sym is.like.group))
+    (both_true (r.group == p.newest.group) (not (is_acknowledged r p.newest || is_it_acknowledged r p.before))
+    (eq-eqb r.group p.newest.group (same ∙ sym is.like.group))
     (right_by_none (is_acknowledged r p.newest) (is_it_acknowledged r p.before) (isnt_acknowledged r p.newest early) (ap (is_it_acknowledged r) is.alone)))
 
-pub early_receipts_told : (from to : ℕ) (s : AllSessions) (rts : Frame) (opened : Session) (first : List Frame) (cts : Frame) (c : Clearance) (later : List Frame)
+pub early_receipts_told : (from to : ℕ) (s : AllSessions) (rts : Frame) (opened : Session) (first : List Frame) (cts : Frame) (c : Clearance)
+    (later : List Frame)
     (receipt : Frame) (r : Receipt) (missing : ℕ)
     → IsTaken from to s rts opened first cts c later → 1 ≤ missing → missing ≤ opened.count → Each (λ f. ¬ IsPacket from to missing f) (first ++ cts ∷ later)
     → IsReceipt from to r receipt → r.group ≡ opened.group

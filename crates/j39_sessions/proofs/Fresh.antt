@@ -9,7 +9,8 @@ use Rattle.j39_id.specs.declared.frame.Frame.{Frame}
 use Rattle.j39_id.specs.declared.ident.Ident.{Ident}
 use Rattle.j39_tp.specs.Chunks.{packets_of}
 use Rattle.j39_tp.specs.Packets.{end_control, is_size, rts_control, size_in}
-use Rattle.j39_sessions.specs.SessionFrames.{announcement_role, announces, begins_with, clearance_in, clears, data_role, gives_size, goes_rightly, has_size, is_right, is_whole_control, management_role, numbers, opened, receipt_in, role_of}
+use Rattle.j39_sessions.specs.SessionFrames.{announcement_role, announces, begins_with, clearance_in, clears, data_role, gives_size, goes_rightly, has_size}
+use Rattle.j39_sessions.specs.SessionFrames.{is_right, is_whole_control, management_role, numbers, opened, receipt_in, role_of}
 use Rattle.j39_sessions.specs.declared.role.Role.{Role}
 use Rattle.j39_sessions.specs.declared.role.Role.TheVariants.{Begins, Breaks, Clears, Acknowledges, Carries, Nothing}
 use Rattle.j39_sessions.specs.declared.session.Session.{Session}
@@ -21,7 +22,8 @@ pub record IsFresh (s : Session) : Type 0 where
   pub sent : s.sent ≡ replicate numbers false
   pub count : s.count < 256
 
-by_cases : (b : Bool) (x y : Role) (s : Session) → cond b x y ≡ Begins s → (b ≡ true → x ≡ Begins s → IsFresh s) → (b ≡ false → y ≡ Begins s → IsFresh s) → IsFresh s
+by_cases : (b : Bool) (x y : Role) (s : Session) → cond b x y ≡ Begins s → (b ≡ true → x ≡ Begins s → IsFresh s) → (b ≡ false → y ≡ Begins s → IsFresh s)
+    → IsFresh s
 by_cases true x y s e one two = one refl e
 by_cases false x y s e one two = two refl e
 
@@ -37,7 +39,8 @@ fresh_opened i bytes s right e =
     let has : has_size bytes ≡ true = second_holds (length bytes == 8) (has_size bytes) gives in
     let size : is_size (size_in bytes) ≡ true = first_holds (is_size (size_in bytes)) (slice_index bytes 3 == packets_of (size_in bytes)) has in
     let count : slice_index bytes 3 ≡ packets_of (size_in bytes) =
-    eqb-true (slice_index bytes 3) (packets_of (size_in bytes)) (second_holds (is_size (size_in bytes)) (slice_index bytes 3 == packets_of (size_in bytes)) has) in
+    eqb-true (slice_index bytes 3) (packets_of (size_in bytes)) (second_holds (is_size (size_in bytes))
+    (slice_index bytes 3 == packets_of (size_in bytes)) has) in
     subst IsFresh same (record { greatest = refl; sent = refl; count = subst (λ n. n < 256) (sym count) (few_packets (size_in bytes) size) })
 
 pub right_of : (b : Bool) → not b ≡ false → b ≡ true

@@ -1,5 +1,6 @@
 -- What isn't told: answers that are right by the last RTS, and announcements that are right.
-use Rattle.std.proofs.Common.{◌≡◌, ◌≢◌, zero, suc, ◌+◌, ◌-◌, ◌<◌, ◌≤◌, ◌==◌, ◌&&◌, ◌||◌, ℕ, Bool, true, false, cond, not, List, [], ◌∷◌, ◌++◌, length, replicate, take, drop, get_or, set, Option, Some, None, ◌⊎◌, inl, inr, refl, sym, ap, ◌∙◌, subst, arith, eq-eqb, eqb-true}
+use Rattle.std.proofs.Common.{◌≡◌, ◌≢◌, zero, suc, ◌+◌, ◌-◌, ◌<◌, ◌≤◌, ◌==◌, ◌&&◌, ◌||◌, ℕ, Bool, true, false, cond, not, List, [], ◌∷◌, ◌++◌, length}
+use Rattle.std.proofs.Common.{replicate, take, drop, get_or, set, Option, Some, None, ◌⊎◌, inl, inr, refl, sym, ap, ◌∙◌, subst, arith, eq-eqb, eqb-true}
 use Rattle.std.proofs.lemmas.Bool.{cases_Bool, false≢true}
 use Rattle.std.proofs.lemmas.List.{get_or-set_other, get_or-set_same, length-replicate, length-set}
 use Rattle.std.specs.Prelude.{nat_lt, slice_index}
@@ -9,9 +10,12 @@ use Rattle.j39_id.specs.Ident.{pgn_of}
 use Rattle.j39_id.specs.Services.{connection_management, data_transfer}
 use Rattle.j39_id.specs.declared.frame.Frame.{Frame}
 use Rattle.j39_tp.specs.Packets.{end_control, rts_control}
-use Rattle.j39_sessions.specs.SessionFrames.{announcement_role, announces, announces_rightly, begins_with, clearance_in, clears, data_role, is_right, is_whole_control, management_role, numbers, opened, receipt_in, role_of}
+use Rattle.j39_sessions.specs.SessionFrames.{announcement_role, announces, announces_rightly, begins_with, clearance_in, clears, data_role, is_right}
+use Rattle.j39_sessions.specs.SessionFrames.{is_whole_control, management_role, numbers, opened, receipt_in, role_of}
 use Rattle.j39_sessions.specs.SessionLaws.{AnnouncesNothing, AnyOf, Each, IsCts, IsPacket, IsReceipt, IsRts, IsWay, sessions_after}
-use Rattle.j39_sessions.specs.Sessions.{AllSessions, behind, fault_at, fault_if, fault_in, fault_of, goes_back, has_come, is_acknowledged, is_cleared, is_it_acknowledged, is_it_cleared, is_permitted, is_wrong_clearance, is_wrong_receipt, receiver_by, sender_by, sessions_behind, with_clearance, with_session}
+use Rattle.j39_sessions.specs.Sessions.{AllSessions, behind, fault_at, fault_if, fault_in, fault_of, goes_back, has_come, is_acknowledged, is_cleared}
+use Rattle.j39_sessions.specs.Sessions.{is_it_acknowledged, is_it_cleared, is_permitted, is_wrong_clearance, is_wrong_receipt, receiver_by, sender_by}
+use Rattle.j39_sessions.specs.Sessions.{sessions_behind, with_clearance, with_session}
 use Rattle.j39_sessions.specs.declared.fault.Fault.{Fault}
 use Rattle.j39_sessions.specs.declared.fault.Fault.TheVariants.{Announcement, Grant, Packet, Acknowledged}
 use Rattle.j39_sessions.specs.declared.pair_sessions.PairSessions.{PairSessions}
@@ -23,7 +27,8 @@ use Rattle.j39_sessions.specs.declared.session.Session.{Session}
 use Rattle.j39_sessions.proofs.Answered.{sent_of_cleared}
 use Rattle.j39_sessions.proofs.Fresh.{begins_fresh, right_of}
 use Rattle.j39_sessions.proofs.Steps.{Found, Keeps, backward_ends, each_here, found_packet, found_rts, step, steps, told_here}
-use Rattle.j39_sessions.proofs.Told.{IsLike, both_false, both_true, cleared_alike, like_behind, like_it, like_kept, like_more, newest_behind_receipt, newest_of_begun}
+use Rattle.j39_sessions.proofs.Told.{IsLike, both_false, both_true, cleared_alike, like_behind, like_it, like_kept, like_more, newest_behind_receipt}
+use Rattle.j39_sessions.proofs.Told.{newest_of_begun}
 
 -- ---- announcements
 
@@ -64,7 +69,8 @@ breaks_if f wrong =
     let three : announces bytes ≡ true = right_of (announces bytes) (left_false (not (announces bytes)) (is_right i bytes) two) in
     let four : is_right i bytes ≡ false = right_false (not (announces bytes)) (is_right i bytes) two in
     let data_there : Role = cond (pgn_of i == data_transfer) (data_role bytes) Nothing in
-    let answer : Role = cond (clears bytes) (Clears (clearance_in bytes)) (cond (is_whole_control end_control bytes) (Acknowledges (receipt_in bytes)) Nothing) in
+    let answer : Role = cond (clears bytes) (Clears (clearance_in bytes))
+    (cond (is_whole_control end_control bytes) (Acknowledges (receipt_in bytes)) Nothing) in
     let opening : Role = cond (begins_with rts_control bytes && is_address i.sa) (Begins (opened bytes)) Nothing in
     ap (λ (b : Bool). cond b (management_role i bytes) data_there) one
     ∙ ap (λ (b : Bool). cond b (announcement_role i bytes) answer) three
@@ -168,7 +174,8 @@ sent_set xs n k room is =
       | inr e ↦ get_or-set_other xs n k true false (λ s. false≢true (sym e ∙ eq-eqb k n s)) ∙ is
     ])
 
-sent_behind : (k : ℕ) (r : Role) (p : PairSessions) → k < length p.newest.sent → get_or p.newest.sent k false ≡ true → get_or (behind r p).newest.sent k false ≡ true
+sent_behind : (k : ℕ) (r : Role) (p : PairSessions) → k < length p.newest.sent → get_or p.newest.sent k false ≡ true
+    → get_or (behind r p).newest.sent k false ≡ true
 sent_behind k (Clears c) p room is =
     (elim (c.group == p.newest.group) as (λ b. get_or (cond b (with_clearance c p) p).newest.sent k false ≡ get_or p.newest.sent k false)
     [ true ↦ ap (λ (xs : List Bool). get_or xs k false) (sent_of_cleared c p.newest) | false ↦ refl ]) ∙ is
@@ -240,7 +247,8 @@ right_receipt_isnt s from to rts opened since receipt r rts_is none receipt_is g
     let end = sessions_after since s1 in
     let start : Found (IsHeld opened) (s1 from to) = found_rts (IsHeld opened) from to rts opened s rts_is (record {
       like = subst (IsLike opened) (sym (newest_of_begun opened (s from to))) (like_it opened);
-      room = ap (λ (t : Session). length t.sent) (newest_of_begun opened (s from to)) ∙ ap (λ (xs : List Bool). length xs) fresh.sent ∙ length-replicate numbers false;
+      room = ap (λ (t : Session). length t.sent) (newest_of_begun opened (s from to)) ∙ ap
+          (λ (xs : List Bool). length xs) fresh.sent ∙ length-replicate numbers false;
     }) in
     let found = steps (IsHeld opened) from to since s1 none (each_here (Keeps (IsHeld opened) from to) (held_kept opened from to) since) start in
     let p = found.pair in

@@ -4,7 +4,8 @@ use Rattle.j39_id.specs.declared.frame.Frame.{Frame}
 use Rattle.j39_id.specs.declared.ident.Ident.{Ident}
 use Rattle.j39_sessions.specs.SessionFrames.{role_of}
 use Rattle.j39_sessions.specs.SessionLaws.{AnnouncesNothing, Each, IsCts, IsPacket, IsRts, IsWay, sessions_after}
-use Rattle.j39_sessions.specs.Sessions.{AllSessions, behind, fault_at, fault_of, goes_back, is_of_session, pair_behind, receiver_by, sender_by, sessions_behind, with_session}
+use Rattle.j39_sessions.specs.Sessions.{AllSessions, behind, fault_at, fault_of, goes_back, is_of_session, pair_behind, receiver_by, sender_by, sessions_behind}
+use Rattle.j39_sessions.specs.Sessions.{with_session}
 use Rattle.j39_sessions.specs.declared.pair_sessions.PairSessions.{PairSessions}
 use Rattle.j39_sessions.specs.declared.role.Clearance.{Clearance}
 use Rattle.j39_sessions.specs.declared.role.Role.{Role}
@@ -199,7 +200,8 @@ found_packet P Q from to f k s packet leads found =
 
 -- ---- what is told
 
-pub told_here : (from to : ℕ) (f : Frame) (r : Role) (s : AllSessions) (p : PairSessions) → role_of f ≡ r → sender_by f.ident r ≡ from → receiver_by f.ident r ≡ to
+pub told_here : (from to : ℕ) (f : Frame) (r : Role) (s : AllSessions) (p : PairSessions) → role_of f ≡ r → sender_by f.ident r ≡ from
+    → receiver_by f.ident r ≡ to
     → s from to ≡ Some p → fault_at f s ≡ fault_of r (Some p)
 unfolding fault_at
 told_here from to f r s p is one two known =

@@ -1,10 +1,12 @@
 -- What is told of sessions, by the frames behind an RTS.
-use Rattle.std.proofs.Common.{◌≡◌, zero, suc, ◌<◌, ◌≤◌, ◌==◌, ◌&&◌, ◌||◌, ℕ, Bool, true, false, cond, nat_le, max, not, List, ◌∷◌, ◌++◌, Option, Some, None, refl, sym, ap, ◌∙◌, subst, arith, eq-eqb, eqb-true}
+use Rattle.std.proofs.Common.{◌≡◌, zero, suc, ◌<◌, ◌≤◌, ◌==◌, ◌&&◌, ◌||◌, ℕ, Bool, true, false, cond, nat_le, max, not, List, ◌∷◌, ◌++◌, Option, Some, None}
+use Rattle.std.proofs.Common.{refl, sym, ap, ◌∙◌, subst, arith, eq-eqb, eqb-true}
 use Rattle.std.proofs.lemmas.Bool.{le-leb, lt-leb, leb-true}
 use Rattle.j39_id.specs.declared.frame.Frame.{Frame}
 use Rattle.j39_sessions.specs.SessionFrames.{role_of}
 use Rattle.j39_sessions.specs.SessionLaws.{AnnouncesNothing, ClearsBelow, Each, IsCts, IsPacket, IsRts, sessions_after}
-use Rattle.j39_sessions.specs.Sessions.{AllSessions, behind, cleared, fault_at, fault_if, goes_back, is_acknowledged, is_cleared, is_it_acknowledged, is_permitted, last_cleared, sessions_behind, stays, with_clearance, with_receipt, with_session}
+use Rattle.j39_sessions.specs.Sessions.{AllSessions, behind, cleared, fault_at, fault_if, goes_back, is_acknowledged, is_cleared, is_it_acknowledged}
+use Rattle.j39_sessions.specs.Sessions.{is_permitted, last_cleared, sessions_behind, stays, with_clearance, with_receipt, with_session}
 use Rattle.j39_sessions.specs.declared.fault.Fault.TheVariants.{Packet}
 use Rattle.j39_sessions.specs.declared.pair_sessions.Before.TheVariants.{Nothing as NoneBefore}
 use Rattle.j39_sessions.specs.declared.pair_sessions.PairSessions.{PairSessions}
@@ -45,7 +47,8 @@ pub like_behind : (r : Role) (p : PairSessions) → IsLike p.newest (behind r p)
 like_behind (Clears c) p = elim (c.group == p.newest.group) as (λ b. IsLike p.newest (cond b (with_clearance c p) p).newest)
     [ true ↦ like_cleared c p.newest | false ↦ like_it p.newest ]
 like_behind (Acknowledges r) p = elim (r.group == p.newest.group) as (λ b. IsLike p.newest (cond b (with_receipt r p) p).newest) [
-  | true ↦ elim (is_acknowledged r p.newest || not (is_it_acknowledged r p.before)) as (λ b. IsLike p.newest (cond b (record p { is_over = true }) (record p { before = NoneBefore })).newest)
+  | true ↦ elim (is_acknowledged r p.newest || not (is_it_acknowledged r p.before)) as
+      (λ b. IsLike p.newest (cond b (record p { is_over = true }) (record p { before = NoneBefore })).newest)
       [ true ↦ like_it p.newest | false ↦ like_it p.newest ]
   | false ↦ like_it p.newest
 ]
@@ -65,7 +68,8 @@ newest_of_begun o (Some p) = refl
 -- ---- the greatest number that a CTS cleared
 
 same_greatest : (r : Receipt) (p : PairSessions) → (with_receipt r p).newest ≡ p.newest
-same_greatest r p = elim (is_acknowledged r p.newest || not (is_it_acknowledged r p.before)) as (λ b. (cond b (record p { is_over = true }) (record p { before = NoneBefore })).newest ≡ p.newest)
+same_greatest r p = elim (is_acknowledged r p.newest || not (is_it_acknowledged r p.before)) as
+    (λ b. (cond b (record p { is_over = true }) (record p { before = NoneBefore })).newest ≡ p.newest)
     [ true ↦ refl | false ↦ refl ]
 
 pub newest_behind_receipt : (r : Receipt) (p : PairSessions) → (behind (Acknowledges r) p).newest ≡ p.newest
@@ -152,7 +156,8 @@ uncleared_told s from to rts opened since packet (suc k) rts_is none below packe
     let found = steps P from to since (sessions_behind rts s) none
     (each_of (ClearsBelow from to opened (suc k)) (Keeps P from to) (λ f b. below_kept from to opened (suc k) f b) since below)
     (found_rts P from to rts opened s rts_is first) in
-    told_packet from to packet (suc k) (sessions_after since (sessions_behind rts s)) found.pair packet_is found.is (not_above (suc k) found.pair.newest found.holds.below)
+    told_packet from to packet (suc k) (sessions_after since (sessions_behind rts s)) found.pair packet_is found.is
+    (not_above (suc k) found.pair.newest found.holds.below)
 
 -- ---- packets that a CTS cleared
 
@@ -176,7 +181,8 @@ reaches c p same least =
       newest = cond d (record p.newest { greatest = max p.newest.greatest (last_cleared c p.newest.count) }) p.newest;
       before = cond (is_cleared c p.newest && not (stays c p.before)) NoneBefore p.before;
     }) p).newest.greatest) (sym e)
-    (subst (λ (d : Bool). last_cleared c p.newest.count ≤ (cond d (record p.newest { greatest = max p.newest.greatest (last_cleared c p.newest.count) }) p.newest).greatest) (sym f) (omega arith)) in
+    (subst (λ (d : Bool). last_cleared c p.newest.count ≤ (cond d
+    (record p.newest { greatest = max p.newest.greatest (last_cleared c p.newest.count) }) p.newest).greatest) (sym f) (omega arith)) in
     at (c.group == p.newest.group) (nat_le 1 c.first) (eq-eqb c.group p.newest.group same) (le-leb 1 c.first least)
 
 told_none : (from to : ℕ) (packet : Frame) (k : ℕ) (s : AllSessions) (q : PairSessions) → IsPacket from to k packet → s from to ≡ Some q
@@ -200,8 +206,12 @@ cleared_arent s from to rts opened first cts c later packet k rts_is none_first 
     let up_to = steps P from to first (sessions_behind rts s) none_first (each_here (Keeps P from to) (like_kept opened from to) first)
     (found_rts P from to rts opened s rts_is start) in
     let behind_cts = found_cts P (IsReached n) from to cts c s1 cts_is
-    (λ p like. record { reached = subst (λ (m : ℕ). last_cleared c m ≤ (behind (Clears c) p).newest.greatest) like.count (reaches c p (same ∙ sym like.group) least) }) up_to in
-    let found = steps (IsReached n) from to later (sessions_behind cts s1) none_later (each_here (Keeps (IsReached n) from to) (reached_kept n from to) later) behind_cts in
+    (λ p like. record {
+      reached = subst (λ (m : ℕ). last_cleared c m ≤ (behind (Clears c) p).newest.greatest) like.count
+          (reaches c p (same ∙ sym like.group) least);
+    }) up_to in
+    let found = steps (IsReached n) from to later (sessions_behind cts s1) none_later
+    (each_here (Keeps (IsReached n) from to) (reached_kept n from to) later) behind_cts in
     let enough = found.holds.reached in
     let there : k ≤ found.pair.newest.greatest = omega arith in
     subst (λ (t : AllSessions). fault_at packet t ≡ None) (sym (after-append (rts ∷ first) (cts ∷ later) s))

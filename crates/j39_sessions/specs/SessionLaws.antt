@@ -119,7 +119,8 @@ abbrev pub IsntByTheOneBefore : ℕ → ℕ → AllSessions → Clearance → Ty
 IsntByTheOneBefore from to s c = (p : PairSessions) → s from to ≡ Some p → is_cleared c p.newest ≡ false
 
 -- an RTS, and behind it a CTS that is right by it, and not by the RTS before
-pub record IsTaken (from to : ℕ) (s : AllSessions) (rts : Frame) (opened : Session) (first : List Frame) (cts : Frame) (c : Clearance) (later : List Frame) : Type 0 where
+pub record IsTaken (from to : ℕ) (s : AllSessions) (rts : Frame) (opened : Session) (first : List Frame) (cts : Frame) (c : Clearance)
+    (later : List Frame) : Type 0 where
   pub rts_is : IsRts from to opened rts
   pub none_first : Each (AnnouncesNothing from to) first
   pub cts_is : IsCts from to c cts

@@ -1,7 +1,8 @@
 //! The sessions from one address to another.
 ghost use Rattle.std.specs.Prelude.{◌≡◌};
 ghost use Rattle.j39_sessions.specs.Sessions.{begun, behind, fault_in, first, is_it_acknowledged, is_it_cleared};
-ghost use Rattle.j39_sessions.specs.Sessions.{is_wrong_clearance, is_wrong_receipt, stays, with_clearance, with_receipt};
+ghost use Rattle.j39_sessions.specs.Sessions.{is_wrong_clearance, is_wrong_receipt, stays, with_clearance};
+ghost use Rattle.j39_sessions.specs.Sessions.{with_receipt};
 
 use crate::fault::Fault;
 use crate::role::{Clearance, Receipt, Role};

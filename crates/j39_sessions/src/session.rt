@@ -1,6 +1,7 @@
 //! A message to one address, from its RTS on.
 ghost use Rattle.std.specs.Prelude.{◌≡◌};
-ghost use Rattle.j39_sessions.specs.Sessions.{cleared, has_come, is_acknowledged, is_cleared, is_permitted, with_packet};
+ghost use Rattle.j39_sessions.specs.Sessions.{cleared, has_come, is_acknowledged, is_cleared, is_permitted};
+ghost use Rattle.j39_sessions.specs.Sessions.{with_packet};
 
 use crate::role::{Clearance, Receipt};
 
