@@ -56,6 +56,12 @@ def raced(dice: random.Random, frames: list[Frame], receiver: int) -> list[Frame
 def altered(dice: random.Random, frame: Frame) -> Frame:
     """A frame with another byte, another length, or another way."""
     kind, data = dice.random(), bytearray(frame.data)
+    if not data:
+        return frame
+    if data[0] == CTS and frame.pgn == TRANSPORT and len(data) == FRAME_BYTES and kind < 0.5:
+        place = dice.choice([1, 2])
+        data[place] = max(0, min(ALL, data[place] + dice.choice([-1, 1, 1, 2, 5])))
+        return frame._replace(data=bytes(data))
     if kind < 0.7:
         data[dice.randrange(len(data))] = dice.choice([0, 1, 2, 3, 4, 9, RTS, CTS, END_ACK, BAM, ALL])
         return frame._replace(data=bytes(data))
@@ -70,6 +76,7 @@ def faulty(dice: random.Random, frames: list[Frame]) -> list[Frame]:
     for _ in range(dice.choice([1, 1, 2, 4])):
         at, kind = dice.randrange(len(found)), dice.random()
         if kind < 0.35:
+            at = dice.choice([at, *(place for place, frame in enumerate(found) if frame.data[:1] == bytes([CTS]))])
             found[at] = altered(dice, found[at])
         elif kind < 0.6 and len(found) > 1:
             del found[at]

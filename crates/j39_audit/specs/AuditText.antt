@@ -35,19 +35,20 @@ use Rattle.j39_audit.specs.MessageStreams.{nothing_sighted, sighted_behind}
 use Rattle.j39_audit.specs.Pauses.{ending_of}
 use Rattle.j39_audit.specs.SentMessages.{noted_at}
 use Rattle.j39_audit.specs.Responses.{AreResponses}
+use Rattle.j39_audit.specs.ToldSessions.{ToldSessions, forgotten, no_sessions_told, sessions_before, sessions_with_frame}
 use Rattle.j39_audit.specs.Settings.{AreMoving, Settings, by_load as judged_by_load, units_planned}
 use Rattle.j39_audit.specs.declared.again.TakenFrame.{TakenFrame}
 use Rattle.j39_audit.specs.declared.by_load.Bound.TheVariants.{Bus}
 use Rattle.j39_audit.specs.declared.mark.Mark.{Mark}
 use Rattle.j39_audit.specs.declared.mark.Word.{Word}
-use Rattle.j39_audit.specs.declared.mark.Word.TheVariants.{Short, Stranger, Nobody, Address, Cannot, Layout, NoFlow, Priority, Urgent, Seen, Unclear, Asked, Counted, Unsure, Break, NearFlow, NearRequest, SilentFlow, Deaf, NearPackets, SilentPackets, NearOrLate, SilentOrLate, Answers}
+use Rattle.j39_audit.specs.declared.mark.Word.TheVariants.{Short, Stranger, Nobody, Address, Cannot, Layout, NoFlow, Priority, Urgent, Seen, Unclear, Asked, Counted, Unsure, Break, NearFlow, NearRequest, SilentFlow, Deaf, NearPackets, SilentPackets, NearOrLate, SilentOrLate, Answers, WrongAnnouncement, WrongGrant, WrongPacket, WrongReceipt}
 use Rattle.j39_audit.specs.declared.tally.Occurrences.{Occurrences}
 
 -- ---- a log
 
 -- what came so far: how many lines, the interface of the log, the newest time, that of the frame before, this frame where nothing that is skipped or bad came
 -- since, how many stand there again, the claims, what was noted, what the times report by the bus and by
--- load, who is asked for claims, the planned broadcasts, and how many lines there were of each sort
+-- load, who is asked for claims, the planned broadcasts, the sessions, and how many lines there were of each sort
 pub record AuditPast : Type 0 where
   pub number : ℕ
   pub interface : Option (List ℕ)
@@ -61,6 +62,7 @@ pub record AuditPast : Type 0 where
   pub by_load : Moments
   pub asking : Asking
   pub broadcasts : BegunBroadcasts
+  pub sessions : ToldSessions
   pub frames : ℕ
   pub skipped : ℕ
   pub bad : ℕ
@@ -80,6 +82,7 @@ nothing_read = record {
   by_load = no_moments;
   asking = no_asking;
   broadcasts = no_broadcasts;
+  sessions = no_sessions_told;
   frames = 0;
   skipped = 0;
   bad = 0;
@@ -94,6 +97,7 @@ bad_line s past = record past {
   by_load = behind_bad (judged_by_load s) past.by_load;
   asking = all_forgotten past.asking;
   broadcasts = all_broadcasts_ended past.broadcasts;
+  sessions = forgotten past.sessions;
 }
 
 -- a line of an 11-bit identifier is skipped, which is reported of behind the first frame; one without a word isn't counted
@@ -139,6 +143,10 @@ abbrev pub broadcasts_there : Settings → AuditPast → Option ℕ → Frame �
 broadcasts_there s past time f = broadcasts_before (begins_anew s.stamps past.newest time) (gap_before s past time)
     (ending_of s (knowledge s (claims_before s past time)) f) past.broadcasts
 
+-- the sessions just before it
+abbrev pub sessions_there : Settings → AuditPast → Option ℕ → ToldSessions
+sessions_there s past time = sessions_before (breaks s.stamps past.newest time) (gap_before s past time) past.sessions
+
 abbrev pub claims_with_frame : Settings → AuditPast → Option ℕ → Frame → HeardClaims
 claims_with_frame s past time f = claims_behind s f (claims_before s past time)
 
@@ -158,6 +166,7 @@ past_with_frame s past time named f packet = record past {
       f past.number (counted_for s past time f packet) (moments_with_frame s s past time f packet past.moments).since past.asking;
   broadcasts = broadcasts_behind s (knowledge s (claims_with_frame s past time f)) (counted_for s past time f packet) f (announcement_in packet) time
       (moments_with_frame s s past time f packet past.moments).since past.number (broadcasts_there s past time f);
+  sessions = sessions_with_frame s (counted_for s past time f packet) f past.number (sessions_there s past time);
   frames = past.frames + 1;
 }
 
@@ -220,7 +229,7 @@ log_ended s past = record past { moments = all_pauses_ended s past.moments; by_l
 
 -- the words that accuse, in the order in which they are written
 abbrev pub accusing : List Word
-accusing = Short ∷ Stranger ∷ Nobody ∷ Address ∷ Cannot ∷ Deaf ∷ Layout ∷ NoFlow ∷ Priority ∷ Urgent ∷ NearFlow ∷ NearRequest ∷ NearPackets ∷ SilentFlow ∷ SilentPackets ∷ []
+accusing = Short ∷ Stranger ∷ Nobody ∷ Address ∷ Cannot ∷ Deaf ∷ Layout ∷ NoFlow ∷ Priority ∷ Urgent ∷ WrongAnnouncement ∷ WrongGrant ∷ WrongPacket ∷ WrongReceipt ∷ NearFlow ∷ NearRequest ∷ NearPackets ∷ SilentFlow ∷ SilentPackets ∷ []
 
 abbrev pub accusing_at : ℕ → Word
 accusing_at n = slice_index_or accusing n Urgent
@@ -259,6 +268,10 @@ word_text NearPackets = codes "near"
 word_text SilentPackets = codes "silent"
 word_text NearOrLate = codes "near_or_late"
 word_text SilentOrLate = codes "silent_or_late"
+word_text WrongAnnouncement = codes "announcement"
+word_text WrongGrant = codes "grant"
+word_text WrongPacket = codes "packet"
+word_text WrongReceipt = codes "acknowledged"
 word_text _ = codes "urgent"
 
 unfoldable pub unit_text : Plan → ℕ → List ℕ
@@ -370,10 +383,10 @@ unfoldable pub word_count : Settings → Look → Word → ℕ
 word_count s look word = sum_below (subject_count s look word) (subjects s word)
 
 unfoldable pub accusations : Settings → Look → List ℕ
-accusations s look = each_below (λ n. word_lines s look (accusing_at n)) 15
+accusations s look = each_below (λ n. word_lines s look (accusing_at n)) 19
 
 unfoldable pub accusation_count : Settings → Look → ℕ
-accusation_count s look = sum_below (λ n. word_count s look (accusing_at n)) 15
+accusation_count s look = sum_below (λ n. word_count s look (accusing_at n)) 19
 
 -- ---- what was seen
 
@@ -444,7 +457,7 @@ abbrev pub counts_of : AuditPast → LineCounts
 counts_of past = record { frames = past.frames; skipped = past.skipped; bad = past.bad; elsewhere = past.elsewhere }
 
 -- what is reported of each mark: of those that speak of times by the times, by the bus or by load, of units that don't answer by who is asked, of
--- packets that come late by the broadcasts, of the others by the frames
+-- packets that come late by the broadcasts, of sessions by these, of the others by the frames
 abbrev pub is_of_moments : Word → Bool
 is_of_moments NearFlow = true
 is_of_moments NearRequest = true
@@ -474,12 +487,20 @@ abbrev pub is_of_broadcasts : Word → Bool
 is_of_broadcasts SilentPackets = true
 is_of_broadcasts _ = false
 
+abbrev pub is_of_sessions : Word → Bool
+is_of_sessions WrongAnnouncement = true
+is_of_sessions WrongGrant = true
+is_of_sessions WrongPacket = true
+is_of_sessions WrongReceipt = true
+is_of_sessions _ = false
+
 abbrev pub look_at : AuditPast → Look
 look_at past m =
     if is_of_moments m.word then reported_in past.moments.untimely m
     else if is_of_load m.word then reported_in past.by_load.untimely (mark_by_bus m)
     else if is_of_asking m.word then reported_in past.asking.deaf m
-    else if is_of_broadcasts m.word then reported_in past.broadcasts.late m else reported_in past.noted m
+    else if is_of_broadcasts m.word then reported_in past.broadcasts.late m
+    else if is_of_sessions m.word then reported_in past.sessions.told m else reported_in past.noted m
 
 abbrev pub audit_text : Settings → AuditPast → List ℕ
 audit_text s past = text_by s (counts_of past) past.again (look_at past)

@@ -4,7 +4,7 @@ ghost use Rattle.std.specs.Option.{option_copied};
 ghost use Rattle.j39_id.specs.Lines.{Line, yields};
 ghost use Rattle.j39_log.specs.LineCounting.{AreWithin, IsLineMore};
 ghost use Rattle.j39_audit.specs.AuditText.{AuditPast, bad_line, is_of_asking, is_of_broadcasts, is_of_load};
-ghost use Rattle.j39_audit.specs.AuditText.{is_of_moments, mark_by_bus, passed_by, past_again, past_with_again};
+ghost use Rattle.j39_audit.specs.AuditText.{is_of_moments, is_of_sessions, mark_by_bus, passed_by, past_again, past_with_again};
 ghost use Rattle.j39_audit.specs.AuditText.{skipped_line, with_again};
 ghost use Rattle.j39_audit.specs.BegunBroadcasts.{BegunBroadcasts as SomeBroadcasts, broadcasts_behind, packet_with};
 ghost use Rattle.j39_audit.specs.Claiming.{HeardClaims, broken_off};
@@ -32,6 +32,7 @@ use crate::known::Known;
 use crate::mark::{Mark, Word, make_mark};
 use crate::moments::{Moments, Seen};
 use crate::pauses::{Ending, ending_of};
+use crate::session_marks::SessionMarks;
 use crate::tally::{MarkTally, Occurrences};
 use crate::times::{begins_anew, breaks, line_time, newest_behind};
 use j39_follow::{interface, is_elsewhere, keep_interface, kept_interface, read_part, time_text};
@@ -61,6 +62,7 @@ pub(crate) struct AuditLog<'a> {
     pub by_load: Moments,
     pub asking: Asking,
     pub broadcasts: BegunBroadcasts,
+    pub sessions: SessionMarks,
     pub counts: LineCounts,
 }
 
@@ -134,6 +136,16 @@ fn is_of_broadcasts(word: Word) -> bool
     matches!(word, Word::SilentPackets)
 }
 
+// Whether a word speaks of sessions.
+fn is_of_sessions(word: Word) -> bool
+    ensures { result ≡ is_of_sessions word }
+{
+    matches!(
+        word,
+        Word::WrongAnnouncement | Word::WrongGrant | Word::WrongPacket | Word::WrongReceipt
+    )
+}
+
 // Takes a frame of this time, which announces this and counts for this unit, if it does, for the broadcasts of units.
 fn take_packet(
     broadcasts: &mut BegunBroadcasts,
@@ -198,6 +210,7 @@ impl<'a> AuditLog<'a> {
             by_load,
             asking,
             broadcasts,
+            sessions: SessionMarks::new(alloc),
             counts: LineCounts::new(),
         })
     }
@@ -215,6 +228,8 @@ impl<'a> AuditLog<'a> {
             self.asking.deaf.reported(mark)
         } else if is_of_broadcasts(mark.word) {
             self.broadcasts.late.reported(mark)
+        } else if is_of_sessions(mark.word) {
+            self.sessions.told.reported(mark)
         } else {
             self.tally.reported(mark)
         }
@@ -273,6 +288,7 @@ impl<'a> AuditLog<'a> {
             time,
             self.number,
         )?;
+        self.sessions.take(&self.basis, unit, frame, self.number)?;
         Ok(())
     }
 
@@ -321,6 +337,7 @@ impl<'a> AuditLog<'a> {
             self.number,
         );
         self.broadcasts.come_to(&self.basis, anew, gap, ending);
+        self.sessions.come_to(broken, gap);
         let packet = transport_packet(frame);
         let announced = announcement_in(&packet);
         take_frame(
@@ -376,6 +393,7 @@ impl<'a> AuditLog<'a> {
         self.taken = None;
         self.asking.forget_all(&self.basis);
         self.broadcasts.forget_all(&self.basis);
+        self.sessions.forget();
         self.moments.pass_bad(&self.basis)?;
         self.by_load.pass_bad(&self.basis.by_load())
     }

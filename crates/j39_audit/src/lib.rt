@@ -27,6 +27,7 @@ mod places;
 mod reading;
 mod requests;
 mod senders;
+mod session_marks;
 mod settings;
 mod silence;
 mod silences;
