@@ -1,5 +1,5 @@
 #!/usr/bin/env python3
-"""Compares which flows and packets `audit` tells as near or silent, or late, which units as deaf, and which claims, with a reference in Python:
+"""Compares which flows and packets `audit` tells as near or silent, or late, which units as deaf, which claims, and which frames of sessions, with a reference in Python:
 audit_logs.py [LOGS [SEED]]
 
 Each of so many random logs (200) is of a random plan of five units: frames that keep their distances or don't, messages that deviate from their group, claims
@@ -21,6 +21,8 @@ from pathlib import Path
 sys.dont_write_bytecode = True
 from audit_plans import ALL, CLAIM, CLAIMS_ASKED, FRAME_BYTES, NULL, PACKETS, REQUEST, SECOND, TRANSPORT, Flow, Frame, Group, Line, Plan, Request, Unit
 from audit_reference import Reference
+from audit_sessions import SESSION_WORDS
+from session_logs import random_sessions
 
 # The lines that are compared.
 TOLD = ("address unit ", "cannot unit ", "deaf unit ", "no_flow unit ", "near flow ", "near packets ", "near_or_late flow ", "silent ", "silent_or_late ")
@@ -80,12 +82,17 @@ def random_request(dice: random.Random, time: int | None) -> Frame:
 def random_log(dice: random.Random, plan: Plan) -> list[Line]:
     near, even = (300, 600, 900, 1500, 3000, 5000, 8000, 10000, 12000, 20000, 25000, 40000, 60000), (9000, 10000, 11000, 10500, 22000, 35000, 700)
     distances, at, lines = dice.choice([near, even]), SECOND, []
+    share, sessions = dice.choice([0, 0, 0.5, 0.9]), []
     for _ in range(dice.randint(10, 120)):
         at += dice.choice(distances)
         odd = dice.random()
         at += dice.choice([1_000_001, 2_000_000, 999_999, 100_000, 100_001, 30_001]) if odd < 0.03 else -dice.choice([3000, 100_000, 2_500_000]) if odd > 0.985 else 0
         at = max(at, 0)
-        lines.append(random_line(dice, plan, at))
+        if dice.random() < share:
+            sessions = sessions or random_sessions(dice)
+            lines.append(sessions.pop(0)._replace(time=None if dice.random() < 0.003 else at))
+        else:
+            lines.append(random_line(dice, plan, at))
         lines += copies(dice, lines[-1])
     return lines
 
@@ -134,12 +141,13 @@ def answered(plan: Plan, lines: list[Line], is_part: bool, stamps: int, quiet: i
         raise SystemExit(f"audit answers {ran.stdout}{ran.stderr}")
     again = ["again " + "".join(re.findall(r" again (\d+)$", line) or "0") for line in answer if line.startswith("frames ")]
     answers = [f"answers {unit} {count}" for line in answer for unit, count in re.findall(r"^unit (\S+) frames \d+ answers (\d+)$", line)]
-    return [line for line in answer if line.startswith(TOLD)] + answers + again
+    return [line for line in answer if line.startswith((*TOLD, *(f"{word} unit " for word in SESSION_WORDS)))] + answers + again
 
 
 def main(words: list[str]) -> int:
     count, seed = int(words[0]) if words else 200, int(words[1]) if words[1:] else 1
-    differences, told = 0, {word: 0 for word in ("address", "cannot", "deaf", "no_flow", "near", "near_or_late", "silent", "silent_or_late", "answers", "again")}
+    kinds = ("address", "cannot", "deaf", "no_flow", *SESSION_WORDS, "near", "near_or_late", "silent", "silent_or_late", "answers", "again")
+    differences, told = 0, dict.fromkeys(kinds, 0)
     with tempfile.TemporaryDirectory(prefix="j39plan-audits-") as folder:
         for number in range(count):
             dice = random.Random(f"{seed} {number}")

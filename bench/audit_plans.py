@@ -112,12 +112,19 @@ class Frame(NamedTuple):
 Line = Frame | tuple[str, str]
 
 
+def is_group(number: int) -> bool:
+    """Whether a number is that of a group: 18 bits, and the low byte 0 where frames name a destination."""
+    return number < 1 << 18 and (number >> 8 & 0xFF >= 240 or number & 0xFF == 0)
+
+
 def is_announcement(frame: Frame) -> bool:
-    """Whether a frame of the transport protocol announces a message, to all or to one."""
+    """Whether a frame of the transport protocol announces a message, to all or to another address."""
     data = frame.data
+    if frame.pgn != TRANSPORT or len(data) != FRAME_BYTES:
+        return False
     size = data[1] | data[2] << 8
-    is_right = FRAME_BYTES < size <= LONGEST and data[3] == whole(size, PACKET_BYTES)
-    return is_right and data[0] == (0x20 if frame.to == ALL else 0x10)
+    is_message = FRAME_BYTES < size <= LONGEST and data[3] == whole(size, PACKET_BYTES) and is_group(int.from_bytes(data[5:8], "little"))
+    return is_message and (frame.to == ALL if data[0] == 0x20 else data[0] == 0x10 and frame.to < NULL and frame.to != frame.source)
 
 
 def announced(frame: Frame) -> tuple[int, int]:

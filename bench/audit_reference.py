@@ -6,6 +6,7 @@ from dataclasses import dataclass, field
 from typing import NamedTuple
 
 from audit_plans import ALL, CLAIM, CLAIMS_ASKED, FRAME_BYTES, NULL, PACKETS, POOL, REQUEST, SECOND, TRANSPORT, Flow, Frame, Plan, announced, is_announcement, whole
+from audit_sessions import ToldSessions
 
 BIT = 4
 LONGEST_ANSWER_MS, LONGEST_REPLY_MS = 250, 1250
@@ -95,6 +96,7 @@ class Reference:
         self.without_flow: dict[tuple[int, int], list[int]] = {}  # of units and groups the lines of messages that no flow brings there
         self.answers: dict[int, int] = {}  # how many of these a unit was asked for
         self.again = 0  # how many frames stand in the log again
+        self.sessions = ToldSessions([unit.label for unit in plan.units])
 
     def longest(self, ms: int) -> int:
         return whole(1001 * ms * (SECOND + self.plan.drift), SECOND)
@@ -190,7 +192,7 @@ class Reference:
 
     def drop(self, line: int, sender: int, frame: Frame) -> None:
         """A message that no flow brings deviates, where its number is a group's: of the flows with this number nothing is awaited any more."""
-        number, size = announced(frame) if frame.pgn == TRANSPORT else (frame.pgn, len(frame.data))
+        number, size = announced(frame) if is_announcement(frame) else (frame.pgn, len(frame.data))
         self.note_without_flow(line, sender, frame, number, size)
         for place, flow in enumerate(self.plan.flows):
             if flow.sender == sender and self.plan.groups[flow.group].pgn == number:
@@ -232,6 +234,7 @@ class Reference:
 
     def take_bad(self) -> None:
         self.asked = {}
+        self.sessions.sessions.forget()
         self.end_all()
         self.take_skipped()
 
@@ -254,6 +257,8 @@ class Reference:
         claimant = next((place for place, unit in enumerate(self.plan.units) if is_claim and unit.name() == int.from_bytes(frame.data, "little")), None)
         sender = self.addresses.sender(frame.source) if not is_claim and frame.source < NULL else None
         flows = [] if sender is None else self.flows_of(sender, frame)
+        if not self.is_part:
+            self.sessions.take(line, frame, sender)
         if frame.time is not None:
             self.mark_idle(frame.time, len(frame.data), is_gap)
             if is_claim:
@@ -299,6 +304,8 @@ class Reference:
             self.requests = [it._replace(time=None) for it in self.requests]
         self.greatest = time if time is None or is_back or self.greatest is None else max(self.greatest, time)
         self.last = time
+        if is_gap:
+            self.sessions.sessions.forget()
         if is_back or is_quiet:
             self.addresses.recent = []
         return is_gap
@@ -342,7 +349,7 @@ class Reference:
     def take_broadcast(self, line: int, time: int, frame: Frame, unit: int, flows: list[int]) -> None:
         """A planned broadcast begins with what announces it, and then has packets: all flows of the plan have a period."""
         data, latest = frame.data, time + self.stamps
-        if frame.pgn == TRANSPORT and frame.to == ALL and is_announcement(frame):
+        if is_announcement(frame) and frame.to == ALL:
             self.begun.pop(unit, None)
             if flows:
                 self.begun[unit] = data[3], latest, line
@@ -412,6 +419,7 @@ class Reference:
         found += [f"deaf unit {label} times {len(told)} first {told[0][0]}" for label, told in deaf]
         found += [f"no_flow unit {self.plan.units[unit].label} group {self.plan.groups[group].label} times {len(told)} first {told[0]}"
                   for (unit, group), told in sorted(self.without_flow.items())]
+        found += self.sessions.lines()
         flows = [f"{at} {self.plan.groups[it.group].label} {self.plan.units[it.sender].label} {self.plan.receiver(it)}" for at, it in enumerate(self.plan.flows, 1)]
         for first, kind in (("near", "flow"), ("near", "packets"), ("silent", "flow"), ("silent", "packets")):
             for place, name in enumerate([unit.label for unit in self.plan.units] if kind == "packets" else flows):

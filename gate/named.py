@@ -21,7 +21,7 @@ FIRST = {
     "run": set("unit settled not report refused".split()),
     "read": {"group", "", "frames", "refused"},
     "follow": {"", *"flow group unit need request frames refused".split()},
-    "audit": CHECK | set("short stranger nobody address cannot deaf layout no_flow priority urgent near near_or_late silent silent_or_late flow request unit frames deviations".split()),
+    "audit": CHECK | set("short stranger nobody address cannot deaf layout no_flow priority urgent announcement grant packet acknowledged near near_or_late silent silent_or_late flow request unit frames deviations".split()),
     "vehicle": CHECK | {"bus", "load", "forward", "need", *(f"G{number}" for number in range(1, 15))},
 }
 

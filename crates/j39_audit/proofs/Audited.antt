@@ -4,7 +4,7 @@ use Rattle.j39_id.specs.Lines.{lines}
 use Rattle.j39_log.specs.declared.line_counts.LineCounts.{LineCounts}
 use Rattle.j39_stream.specs.declared.verdict.Verdict.{Verdict}
 use Rattle.j39_audit.specs.AuditPasts.{AuditPast}
-use Rattle.j39_audit.specs.AuditText.{IsAudit, IsAuditedLog, Look, accusation_count, counts_of, is_of_asking, is_of_broadcasts, is_of_moments}
+use Rattle.j39_audit.specs.AuditText.{IsAudit, IsAuditedLog, Look, accusation_count, counts_of, is_of_asking, is_of_broadcasts, is_of_moments, is_of_sessions}
 use Rattle.j39_audit.specs.AuditPasts.{log_ended}
 use Rattle.j39_audit.specs.AuditText.{look_at, text_by, verdict_by, is_of_load, mark_by_bus}
 use Rattle.j39_audit.specs.Counting.{key_of}
@@ -26,7 +26,8 @@ looks log past recalls = λ i m.
     both (is_of_moments m.word) (recalls.follows.moments.counted (key_of m))
     (both (is_of_load m.word) (recalls.follows.by_load.counted (key_of (mark_by_bus m)))
     (both (is_of_asking m.word) (recalls.follows.asking.counted (key_of m))
-    (both (is_of_broadcasts m.word) (recalls.follows.broadcasts.counted (key_of m)) (recalls.follows.counted (key_of m))))) i
+    (both (is_of_broadcasts m.word) (recalls.follows.broadcasts.counted (key_of m))
+    (both (is_of_sessions m.word) (recalls.follows.sessions.counted (key_of m)) (recalls.follows.counted (key_of m)))))) i
 
 counts : (log : AuditLog) (past : AuditPast) → RecallsAudit log past → log.counts ≡ counts_of past
 counts log past recalls =

@@ -94,6 +94,7 @@ follows_still log past follows = record {
   by_load = follows.by_load;
   asking = follows.asking;
   broadcasts = follows.broadcasts;
+  sessions = follows.sessions;
 }
 
 -- one line more is begun

@@ -20,6 +20,7 @@ use Rattle.j39_audit.specs.MessageStreams.{nothing_sighted, sighted_behind}
 use Rattle.j39_audit.specs.Pauses.{ending_of}
 use Rattle.j39_audit.specs.SentMessages.{noted_at}
 use Rattle.j39_audit.specs.Settings.{Settings, by_load as judged_by_load}
+use Rattle.j39_audit.specs.ToldSessions.{ToldSessions, forgotten, no_sessions_told, sessions_before, sessions_with_frame}
 use Rattle.j39_audit.specs.declared.again.TakenFrame.{TakenFrame}
 use Rattle.j39_audit.specs.declared.mark.Word.TheVariants.{Short}
 
@@ -27,7 +28,7 @@ use Rattle.j39_audit.specs.declared.mark.Word.TheVariants.{Short}
 
 -- what came so far: how many lines, the interface of the log, the newest time, that of the frame before, this frame where nothing that is skipped or bad came
 -- since, how many stand there again, the claims, what was noted, what the times report by the bus and by
--- load, who is asked for claims, the planned broadcasts, and how many lines there were of each sort
+-- load, who is asked for claims, the planned broadcasts, the sessions, and how many lines there were of each sort
 pub record AuditPast : Type 0 where
   pub number : ℕ
   pub interface : Option (List ℕ)
@@ -41,6 +42,7 @@ pub record AuditPast : Type 0 where
   pub by_load : Moments
   pub asking : Asking
   pub broadcasts : BegunBroadcasts
+  pub sessions : ToldSessions
   pub frames : ℕ
   pub skipped : ℕ
   pub bad : ℕ
@@ -60,6 +62,7 @@ nothing_read = record {
   by_load = no_moments;
   asking = no_asking;
   broadcasts = no_broadcasts;
+  sessions = no_sessions_told;
   frames = 0;
   skipped = 0;
   bad = 0;
@@ -74,6 +77,7 @@ bad_line s past = record past {
   by_load = behind_bad (judged_by_load s) past.by_load;
   asking = all_forgotten past.asking;
   broadcasts = all_broadcasts_ended past.broadcasts;
+  sessions = forgotten past.sessions;
 }
 
 -- a line of an 11-bit identifier is skipped, which is reported of behind the first frame; one without a word isn't counted
@@ -119,6 +123,10 @@ abbrev pub broadcasts_there : Settings → AuditPast → Option ℕ → Frame �
 broadcasts_there s past time f = broadcasts_before (begins_anew s.stamps past.newest time) (gap_before s past time)
     (ending_of s (knowledge s (claims_before s past time)) f) past.broadcasts
 
+-- the sessions just before it
+abbrev pub sessions_there : Settings → AuditPast → Option ℕ → ToldSessions
+sessions_there s past time = sessions_before (breaks s.stamps past.newest time) (gap_before s past time) past.sessions
+
 abbrev pub claims_with_frame : Settings → AuditPast → Option ℕ → Frame → HeardClaims
 claims_with_frame s past time f = claims_behind s f (claims_before s past time)
 
@@ -138,6 +146,7 @@ past_with_frame s past time named f packet = record past {
       f past.number (counted_for s past time f packet) (moments_with_frame s s past time f packet past.moments).since past.asking;
   broadcasts = broadcasts_behind s (knowledge s (claims_with_frame s past time f)) (counted_for s past time f packet) f (announcement_in packet) time
       (moments_with_frame s s past time f packet past.moments).since past.number (broadcasts_there s past time f);
+  sessions = sessions_with_frame s (counted_for s past time f packet) f past.number (sessions_there s past time);
   frames = past.frames + 1;
 }
 

@@ -25,14 +25,14 @@ use Rattle.j39_audit.specs.Settings.{AreMoving, Settings, units_planned}
 use Rattle.j39_audit.specs.declared.by_load.Bound.TheVariants.{Bus}
 use Rattle.j39_audit.specs.declared.mark.Mark.{Mark}
 use Rattle.j39_audit.specs.declared.mark.Word.{Word}
-use Rattle.j39_audit.specs.declared.mark.Word.TheVariants.{Short, Stranger, Nobody, Address, Cannot, Layout, NoFlow, Priority, Urgent, Seen, Unclear, Asked, Counted, Unsure, Break, NearFlow, NearRequest, SilentFlow, Deaf, NearPackets, SilentPackets, NearOrLate, SilentOrLate, Answers}
+use Rattle.j39_audit.specs.declared.mark.Word.TheVariants.{Short, Stranger, Nobody, Address, Cannot, Layout, NoFlow, Priority, Urgent, Seen, Unclear, Asked, Counted, Unsure, Break, NearFlow, NearRequest, SilentFlow, Deaf, NearPackets, SilentPackets, NearOrLate, SilentOrLate, Answers, WrongAnnouncement, WrongGrant, WrongPacket, WrongReceipt}
 use Rattle.j39_audit.specs.declared.tally.Occurrences.{Occurrences}
 
 -- ---- what accuses
 
 -- the words that accuse, in the order in which they are written
 abbrev pub accusing : List Word
-accusing = Short ∷ Stranger ∷ Nobody ∷ Address ∷ Cannot ∷ Deaf ∷ Layout ∷ NoFlow ∷ Priority ∷ Urgent ∷ NearFlow ∷ NearRequest ∷ NearPackets ∷ SilentFlow ∷ SilentPackets ∷ []
+accusing = Short ∷ Stranger ∷ Nobody ∷ Address ∷ Cannot ∷ Deaf ∷ Layout ∷ NoFlow ∷ Priority ∷ Urgent ∷ WrongAnnouncement ∷ WrongGrant ∷ WrongPacket ∷ WrongReceipt ∷ NearFlow ∷ NearRequest ∷ NearPackets ∷ SilentFlow ∷ SilentPackets ∷ []
 
 abbrev pub accusing_at : ℕ → Word
 accusing_at n = slice_index_or accusing n Urgent
@@ -71,6 +71,10 @@ word_text NearPackets = codes "near"
 word_text SilentPackets = codes "silent"
 word_text NearOrLate = codes "near_or_late"
 word_text SilentOrLate = codes "silent_or_late"
+word_text WrongAnnouncement = codes "announcement"
+word_text WrongGrant = codes "grant"
+word_text WrongPacket = codes "packet"
+word_text WrongReceipt = codes "acknowledged"
 word_text _ = codes "urgent"
 
 unfoldable pub unit_text : Plan → ℕ → List ℕ
@@ -182,10 +186,10 @@ unfoldable pub word_count : Settings → Look → Word → ℕ
 word_count s look word = sum_below (subject_count s look word) (subjects s word)
 
 unfoldable pub accusations : Settings → Look → List ℕ
-accusations s look = each_below (λ n. word_lines s look (accusing_at n)) 15
+accusations s look = each_below (λ n. word_lines s look (accusing_at n)) 19
 
 unfoldable pub accusation_count : Settings → Look → ℕ
-accusation_count s look = sum_below (λ n. word_count s look (accusing_at n)) 15
+accusation_count s look = sum_below (λ n. word_count s look (accusing_at n)) 19
 
 -- ---- what was seen
 
@@ -256,7 +260,7 @@ abbrev pub counts_of : AuditPast → LineCounts
 counts_of past = record { frames = past.frames; skipped = past.skipped; bad = past.bad; elsewhere = past.elsewhere }
 
 -- what is reported of each mark: of those that speak of times by the times, by the bus or by load, of units that don't answer by who is asked, of
--- packets that come late by the broadcasts, of the others by the frames
+-- packets that come late by the broadcasts, of sessions by these, of the others by the frames
 abbrev pub is_of_moments : Word → Bool
 is_of_moments NearFlow = true
 is_of_moments NearRequest = true
@@ -286,12 +290,20 @@ abbrev pub is_of_broadcasts : Word → Bool
 is_of_broadcasts SilentPackets = true
 is_of_broadcasts _ = false
 
+abbrev pub is_of_sessions : Word → Bool
+is_of_sessions WrongAnnouncement = true
+is_of_sessions WrongGrant = true
+is_of_sessions WrongPacket = true
+is_of_sessions WrongReceipt = true
+is_of_sessions _ = false
+
 abbrev pub look_at : AuditPast → Look
 look_at past m =
     if is_of_moments m.word then reported_in past.moments.untimely m
     else if is_of_load m.word then reported_in past.by_load.untimely (mark_by_bus m)
     else if is_of_asking m.word then reported_in past.asking.deaf m
-    else if is_of_broadcasts m.word then reported_in past.broadcasts.late m else reported_in past.noted m
+    else if is_of_broadcasts m.word then reported_in past.broadcasts.late m
+    else if is_of_sessions m.word then reported_in past.sessions.told m else reported_in past.noted m
 
 abbrev pub audit_text : Settings → AuditPast → List ℕ
 audit_text s past = text_by s (counts_of past) past.again (look_at past)

@@ -2,7 +2,7 @@
 use Rattle.std.specs.Prelude.{ℕ, ◌+◌, ◌-◌, ◌^◌, min, ◌==◌, ◌&&◌, Bool, if◌then◌else◌, List, [], ◌∷◌, filter, length, nat_eq, nat_lt, Option, Some, None}
 use Rattle.j39_audit.specs.declared.mark.Mark.{Mark}
 use Rattle.j39_audit.specs.declared.mark.Word.{Word}
-use Rattle.j39_audit.specs.declared.mark.Word.TheVariants.{Short, Stranger, Nobody, Address, Cannot, Layout, NoFlow, Priority, Urgent, Seen, Unclear, Asked, Counted, Unsure, Break, NearFlow, NearRequest, SilentFlow, Deaf, NearPackets, SilentPackets, NearOrLate, SilentOrLate, Answered, Answers, Besides}
+use Rattle.j39_audit.specs.declared.mark.Word.TheVariants.{Short, Stranger, Nobody, Address, Cannot, Layout, NoFlow, Priority, Urgent, Seen, Unclear, Asked, Counted, Unsure, Break, NearFlow, NearRequest, SilentFlow, Deaf, NearPackets, SilentPackets, NearOrLate, SilentOrLate, Answered, Answers, Besides, WrongAnnouncement, WrongGrant, WrongPacket, WrongReceipt}
 use Rattle.j39_audit.specs.declared.tally.Occurrences.{Occurrences}
 
 -- what was found at a line, with a number that belongs to it
@@ -43,6 +43,10 @@ word_number SilentOrLate = 22
 word_number Answered = 23
 word_number Answers = 24
 word_number Besides = 25
+word_number WrongAnnouncement = 26
+word_number WrongGrant = 27
+word_number WrongPacket = 28
+word_number WrongReceipt = 29
 
 -- two marks are one where this is
 abbrev pub Key : Type 0

@@ -19,5 +19,6 @@ pub mod Responses
 pub mod SentMessages
 pub mod Settings
 pub mod Silence
+pub mod ToldSessions
 pub mod UnitTimes
 pub mod inside

@@ -122,8 +122,12 @@ announced_message u f size pgn = record {
   bytes = None;
 }
 
+-- an announcement to one announces nothing but to another address up to 253
+abbrev pub goes_to_another : Frame → Bool
+goes_to_another f = is_address f.ident.ps && not (f.ident.ps == f.ident.sa)
+
 abbrev pub announced_by : ℕ → Frame → Option Packet → Option SentMessage
-announced_by u f (Some (Rts size limit pgn)) = Some (announced_message u f size pgn)
+announced_by u f (Some (Rts size limit pgn)) = if goes_to_another f then Some (announced_message u f size pgn) else None
 announced_by u f (Some (Bam size pgn)) = Some (announced_message u f size pgn)
 announced_by u f _ = None
 

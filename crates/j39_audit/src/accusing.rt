@@ -33,6 +33,10 @@ fn word_text(word: Word) -> &'static str
         Word::SilentFlow | Word::SilentPackets => "silent",
         Word::NearOrLate => "near_or_late",
         Word::SilentOrLate => "silent_or_late",
+        Word::WrongAnnouncement => "announcement",
+        Word::WrongGrant => "grant",
+        Word::WrongPacket => "packet",
+        Word::WrongReceipt => "acknowledged",
         _ => "urgent",
     }
 }

@@ -1,9 +1,10 @@
 //! What is announced to all, and whether the plan knows how often.
-ghost use Rattle.std.specs.Prelude.{◌≡◌, Some};
+ghost use Rattle.std.specs.Prelude.{◌≡◌, if◌then◌else◌, Some, None};
 ghost use Rattle.std.specs.List.{list_any};
 ghost use Rattle.std.specs.Option.{option_map};
 ghost use Rattle.j39_network.specs.declared.plan.flow_plan.FlowPlan.{FlowPlan as AFlow};
 ghost use Rattle.j39_audit.specs.BegunBroadcasts.{announced_to_all, announcement_in, is_paced, is_unpaced};
+ghost use Rattle.j39_audit.specs.Looking.{announced_message, goes_to_another};
 ghost use Rattle.j39_audit.specs.SentMessages.{is_fit};
 ghost use Rattle.j39_audit.specs.inside.Recalling.{known_by, sent_as, settings_of};
 
@@ -12,6 +13,7 @@ use crate::frame_marks::announced as message_announced;
 use crate::known::Known;
 use crate::messages::{UnitMessage, is_fit};
 use j39_id::Frame;
+use j39_id::addresses::NULL_ADDRESS;
 use j39_network::FlowPlan;
 use j39_tp::Packet;
 
@@ -97,5 +99,29 @@ pub(crate) fn announced_to_all(
     match announced {
         Some(reported) => Some(message_announced(unit, frame, reported.size, reported.number)),
         None => None,
+    }
+}
+
+// Whether a frame goes to another address.
+fn goes_to_another(frame: &Frame) -> bool
+    ensures { result ≡ goes_to_another frame.now }
+{
+    frame.ident.ps < NULL_ADDRESS && frame.ident.ps != frame.ident.sa
+}
+
+/// The message of a unit that a packet to one announces, if it goes to another address.
+pub(crate) fn announced_to_one(
+    unit: usize,
+    frame: &Frame,
+    size: usize,
+    number: u32,
+) -> Option<UnitMessage<'static>>
+    ensures { option_map sent_as result ≡ (if goes_to_another frame.now
+        then Some (announced_message unit frame.now size number) else None) }
+{
+    if goes_to_another(frame) {
+        Some(message_announced(unit, frame, size, number))
+    } else {
+        None
     }
 }

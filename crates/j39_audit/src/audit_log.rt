@@ -6,7 +6,7 @@ ghost use Rattle.j39_log.specs.LineCounting.{AreWithin, IsLineMore};
 ghost use Rattle.j39_audit.specs.AuditPasts.{AuditPast, bad_line};
 ghost use Rattle.j39_audit.specs.AuditText.{is_of_asking, is_of_broadcasts, is_of_load};
 ghost use Rattle.j39_audit.specs.AuditPasts.{passed_by, past_again, past_with_again};
-ghost use Rattle.j39_audit.specs.AuditText.{is_of_moments, mark_by_bus};
+ghost use Rattle.j39_audit.specs.AuditText.{is_of_moments, is_of_sessions, mark_by_bus};
 ghost use Rattle.j39_audit.specs.AuditPasts.{skipped_line, with_again};
 ghost use Rattle.j39_audit.specs.Counting.{Noted};
 ghost use Rattle.j39_audit.specs.MessageStreams.{nothing_sighted, sighted_behind};
@@ -30,9 +30,12 @@ use crate::log_steps::{take_break, take_packet};
 use crate::mark::{Mark, Word, make_mark};
 use crate::moments::{Moments, Seen};
 use crate::pauses::{Ending, ending_of};
+use crate::session_marks::SessionMarks;
 use crate::tally::{MarkTally, Occurrences};
 use crate::times::{begins_anew, breaks, line_time, newest_behind};
-use crate::word_sorts::{is_of_asking, is_of_broadcasts, is_of_load, is_of_moments, mark_by_bus};
+use crate::word_sorts::{
+    is_of_asking, is_of_broadcasts, is_of_load, is_of_moments, is_of_sessions, mark_by_bus,
+};
 use j39_follow::{interface, is_elsewhere, keep_interface, kept_interface, read_part, time_text};
 use j39_id::{Cut, Frame, LineError, read_frame};
 use j39_log::{LineCounts, transport_packet};
@@ -60,6 +63,7 @@ pub(crate) struct AuditLog<'a> {
     pub by_load: Moments,
     pub asking: Asking,
     pub broadcasts: BegunBroadcasts,
+    pub sessions: SessionMarks,
     pub counts: LineCounts,
 }
 
@@ -96,6 +100,7 @@ impl<'a> AuditLog<'a> {
             by_load,
             asking,
             broadcasts,
+            sessions: SessionMarks::new(alloc),
             counts: LineCounts::new(),
         })
     }
@@ -113,6 +118,8 @@ impl<'a> AuditLog<'a> {
             self.asking.deaf.reported(mark)
         } else if is_of_broadcasts(mark.word) {
             self.broadcasts.late.reported(mark)
+        } else if is_of_sessions(mark.word) {
+            self.sessions.told.reported(mark)
         } else {
             self.tally.reported(mark)
         }
@@ -171,6 +178,7 @@ impl<'a> AuditLog<'a> {
             time,
             self.number,
         )?;
+        self.sessions.take(&self.basis, unit, frame, self.number)?;
         Ok(())
     }
 
@@ -219,6 +227,7 @@ impl<'a> AuditLog<'a> {
             self.number,
         );
         self.broadcasts.come_to(&self.basis, anew, gap, ending);
+        self.sessions.come_to(broken, gap);
         let packet = transport_packet(frame);
         let announced = announcement_in(&packet);
         take_frame(
@@ -274,6 +283,7 @@ impl<'a> AuditLog<'a> {
         self.taken = None;
         self.asking.forget_all(&self.basis);
         self.broadcasts.forget_all(&self.basis);
+        self.sessions.forget();
         self.moments.pass_bad(&self.basis)?;
         self.by_load.pass_bad(&self.basis.by_load())
     }

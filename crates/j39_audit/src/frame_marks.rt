@@ -15,6 +15,7 @@ ghost use Rattle.j39_audit.specs.Looking.{message_sent, noted_if, request_noted,
 ghost use Rattle.j39_audit.specs.SentMessages.{deviation as differing_as};
 ghost use Rattle.j39_audit.specs.inside.Recalling.{KnowsClaims, Notes, known_by, sent_as, settings_of};
 
+use crate::announcements::announced_to_one;
 use crate::basis::Basis;
 use crate::claim_marks::note_claim;
 use crate::flow_marks::{flows_meant, note_flows, note_requests};
@@ -143,7 +144,7 @@ fn announced_by(unit: usize, frame: &Frame, packet: Option<Packet>) -> Option<Un
     };
     match packet {
         Packet::Rts { size, pgn, .. } => {
-            Some(announced(unit, frame, usize::from(size.bytes()), pgn.number()))
+            announced_to_one(unit, frame, usize::from(size.bytes()), pgn.number())
         }
         Packet::Bam { size, pgn } => {
             Some(announced(unit, frame, usize::from(size.bytes()), pgn.number()))

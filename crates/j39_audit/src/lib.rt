@@ -30,6 +30,7 @@ mod queue_times;
 mod reading;
 mod requests;
 mod senders;
+mod session_marks;
 mod settings;
 mod silence;
 mod silences;

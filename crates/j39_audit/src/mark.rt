@@ -1,7 +1,7 @@
 //! What is counted of a log.
 ghost use Rattle.std.specs.Prelude.{◌≡◌};
 
-/// What is said of a line or a frame. The first nine accuse, and from `NearFlow` on the next eight.
+/// What is said of a line or a frame. The first nine accuse, from `NearFlow` on the next eight, and the last four.
 #[derive(Clone, Copy)]
 pub enum Word {
     /// A line of an 11-bit identifier.
@@ -56,6 +56,14 @@ pub enum Word {
     Answers,
     /// A message that was asked for by none of the plan's requests.
     Besides,
+    /// An announcement of a message that isn't right.
+    WrongAnnouncement,
+    /// A CTS that is right by no announcement.
+    WrongGrant,
+    /// A packet that no CTS cleared.
+    WrongPacket,
+    /// An acknowledgement that is right by no announcement, or before each packet was sent.
+    WrongReceipt,
 }
 
 impl Word {
@@ -93,6 +101,10 @@ impl Word {
             Word::Answered => 23,
             Word::Answers => 24,
             Word::Besides => 25,
+            Word::WrongAnnouncement => 26,
+            Word::WrongGrant => 27,
+            Word::WrongPacket => 28,
+            Word::WrongReceipt => 29,
         }
     }
 }

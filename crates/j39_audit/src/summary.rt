@@ -20,7 +20,7 @@ use j39_text::{TextBuffer, WriteResult, unit_label};
 use std::alloc::AllocError;
 
 // The words that accuse, in the order in which they are written.
-const ACCUSING: [Word; 15] = [
+const ACCUSING: [Word; 19] = [
     Word::Short,
     Word::Stranger,
     Word::Nobody,
@@ -31,6 +31,10 @@ const ACCUSING: [Word; 15] = [
     Word::NoFlow,
     Word::Priority,
     Word::Urgent,
+    Word::WrongAnnouncement,
+    Word::WrongGrant,
+    Word::WrongPacket,
+    Word::WrongReceipt,
     Word::NearFlow,
     Word::NearRequest,
     Word::NearPackets,

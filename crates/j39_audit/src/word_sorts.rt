@@ -1,6 +1,7 @@
 //! Which part of an audit a word speaks of.
 ghost use Rattle.std.specs.Prelude.{◌≡◌};
-ghost use Rattle.j39_audit.specs.AuditText.{is_of_asking, is_of_broadcasts, is_of_load, is_of_moments, mark_by_bus};
+ghost use Rattle.j39_audit.specs.AuditText.{is_of_asking, is_of_broadcasts, is_of_load, is_of_moments};
+ghost use Rattle.j39_audit.specs.AuditText.{is_of_sessions, mark_by_bus};
 
 use crate::mark::{Mark, Word};
 
@@ -45,4 +46,14 @@ pub(crate) fn is_of_broadcasts(word: Word) -> bool
     ensures { result ≡ is_of_broadcasts word }
 {
     matches!(word, Word::SilentPackets)
+}
+
+/// Whether a word speaks of sessions.
+pub(crate) fn is_of_sessions(word: Word) -> bool
+    ensures { result ≡ is_of_sessions word }
+{
+    matches!(
+        word,
+        Word::WrongAnnouncement | Word::WrongGrant | Word::WrongPacket | Word::WrongReceipt
+    )
 }

@@ -20,6 +20,7 @@ use Rattle.j39_audit.specs.declared.mark.Word.{Word}
 use Rattle.j39_audit.specs.declared.mark.Word.TheVariants.{Short, Stranger, Nobody as NobodyThere, Address, Cannot, Layout, NoFlow, Priority, Urgent, Seen}
 use Rattle.j39_audit.specs.declared.mark.Word.TheVariants.{Unclear, Asked, Counted, Unsure, Break, NearFlow, NearRequest, SilentFlow, Deaf, NearPackets}
 use Rattle.j39_audit.specs.declared.mark.Word.TheVariants.{SilentPackets, NearOrLate, SilentOrLate, Answered, Answers, Besides}
+use Rattle.j39_audit.specs.declared.mark.Word.TheVariants.{WrongAnnouncement, WrongGrant, WrongPacket, WrongReceipt}
 use Rattle.j39_audit.specs.declared.senders.SureSender.{SureSender}
 use Rattle.j39_audit.specs.declared.senders.SureSender.TheVariants.{Unit as OfUnit, Nobody, Unknown}
 use Rattle.j39_audit_laws.specs.FoundLines.{Differs, IsAccusing, IsClaimOf, IsAccusedAs, IsSentFrom}
@@ -74,6 +75,10 @@ module _ (s : Settings) (claims : HeardClaims) (f : Frame) (packet : Option Pack
   differs_marked Answered u g is differs = absurd (true≢false (sym is))
   differs_marked Answers u g is differs = absurd (true≢false (sym is))
   differs_marked Besides u g is differs = absurd (true≢false (sym is))
+  differs_marked WrongAnnouncement u g is differs = absurd (true≢false (sym is))
+  differs_marked WrongGrant u g is differs = absurd (true≢false (sym is))
+  differs_marked WrongPacket u g is differs = absurd (true≢false (sym is))
+  differs_marked WrongReceipt u g is differs = absurd (true≢false (sym is))
 
   -- ---- a note has a meaning
 
@@ -271,6 +276,10 @@ module _ (s : Settings) (claims : HeardClaims) (f : Frame) (packet : Option Pack
   marked_noted Answered u g never = absurd never
   marked_noted Answers u g never = absurd never
   marked_noted Besides u g never = absurd never
+  marked_noted WrongAnnouncement u g never = absurd never
+  marked_noted WrongGrant u g never = absurd never
+  marked_noted WrongPacket u g never = absurd never
+  marked_noted WrongReceipt u g never = absurd never
 
   -- ---- once at most
 

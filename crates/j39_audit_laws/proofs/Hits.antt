@@ -14,6 +14,7 @@ use Rattle.j39_audit.specs.declared.mark.Word.{Word}
 use Rattle.j39_audit.specs.declared.mark.Word.TheVariants.{Short, Stranger, Nobody, Address, Cannot, Layout, NoFlow, Priority, Urgent, Seen, Unclear, Asked}
 use Rattle.j39_audit.specs.declared.mark.Word.TheVariants.{Counted, Unsure, Break, NearFlow, NearRequest, SilentFlow, Deaf, NearPackets, SilentPackets}
 use Rattle.j39_audit.specs.declared.mark.Word.TheVariants.{NearOrLate, SilentOrLate, Answered, Answers, Besides}
+use Rattle.j39_audit.specs.declared.mark.Word.TheVariants.{WrongAnnouncement, WrongGrant, WrongPacket, WrongReceipt}
 use Rattle.j39_audit.proofs.Counted.{same_keys}
 
 -- ---- notes in a list
@@ -50,7 +51,7 @@ if_in m test is = subst (λ (t : Bool). In m (noted_if t m)) (sym is) (inl refl)
 abbrev words : List Word
 words = Short ∷ Stranger ∷ Nobody ∷ Address ∷ Cannot ∷ Layout ∷ NoFlow ∷ Priority ∷ Urgent ∷ Seen ∷ Unclear ∷ Asked ∷ Counted ∷ Unsure ∷ Break ∷ NearFlow
     ∷ NearRequest ∷ SilentFlow ∷ Deaf ∷ NearPackets ∷ SilentPackets ∷ NearOrLate ∷ SilentOrLate ∷ Answered
-    ∷ Answers ∷ Besides ∷ []
+    ∷ Answers ∷ Besides ∷ WrongAnnouncement ∷ WrongGrant ∷ WrongPacket ∷ WrongReceipt ∷ []
 
 abbrev word_of : ℕ → Word
 word_of n = slice_index_or words n Break
@@ -82,6 +83,10 @@ of_number SilentOrLate = refl
 of_number Answered = refl
 of_number Answers = refl
 of_number Besides = refl
+of_number WrongAnnouncement = refl
+of_number WrongGrant = refl
+of_number WrongPacket = refl
+of_number WrongReceipt = refl
 
 pub same_mark : (a b : Mark) → key_of a ≡ key_of b → a ≡ b
 same_mark a b e =

@@ -24,6 +24,7 @@ use Rattle.j39_audit.specs.declared.mark.Word.{Word}
 use Rattle.j39_audit.specs.declared.mark.Word.TheVariants.{Short, Stranger, Nobody as NobodyThere, Address, Cannot, Layout, NoFlow, Priority, Urgent, Seen}
 use Rattle.j39_audit.specs.declared.mark.Word.TheVariants.{Unclear, Asked, Counted, Unsure, Break, NearFlow, NearRequest, SilentFlow, Deaf, NearPackets}
 use Rattle.j39_audit.specs.declared.mark.Word.TheVariants.{SilentPackets, NearOrLate, SilentOrLate, Answered, Answers, Besides}
+use Rattle.j39_audit.specs.declared.mark.Word.TheVariants.{WrongAnnouncement, WrongGrant, WrongPacket, WrongReceipt}
 use Rattle.j39_audit.specs.declared.messages.Test.{Test}
 use Rattle.j39_audit.specs.declared.messages.Test.TheVariants.{Fitting, Selected, Any}
 use Rattle.j39_audit.specs.declared.senders.SureSender.TheVariants.{Unit as OfUnit, Nobody, Unknown}
@@ -162,6 +163,10 @@ module _ (s : Settings) (claims : HeardClaims) (f : Frame) (packet : Option Pack
   accused_listed Answered u g never = absurd never
   accused_listed Answers u g never = absurd never
   accused_listed Besides u g never = absurd never
+  accused_listed WrongAnnouncement u g never = absurd never
+  accused_listed WrongGrant u g never = absurd never
+  accused_listed WrongPacket u g never = absurd never
+  accused_listed WrongReceipt u g never = absurd never
 
 pub found_listed : FoundAreListed
 found_listed s log n m (inl (at, is)) = subst (IsListed s) (sym is) (omega arith, omega arith)

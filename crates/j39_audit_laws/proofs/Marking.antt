@@ -11,7 +11,7 @@ use Rattle.j39_tp.specs.declared.packet.Packet.{Packet}
 use Rattle.j39_audit.specs.Claiming.{Knowledge, was_asked_for}
 use Rattle.j39_audit.specs.Counting.{Noted}
 use Rattle.j39_audit.specs.Looking.{message_sent, request_noted, requested, told, answers_request, answer_noted, answer_of, asked_noted, besides_noted}
-use Rattle.j39_audit.specs.Looking.{announced_by, announced_message, is_single, single}
+use Rattle.j39_audit.specs.Looking.{announced_by, announced_message, goes_to_another, is_single, single}
 use Rattle.j39_audit.specs.SentMessages.{SentMessage, all_marked, deviation, flow_group, flows_noted, is_nearest_flow, is_nearest_request, is_of, marked}
 use Rattle.j39_audit.specs.SentMessages.{noted_at, requests_noted, with_fit_flow, without_flow, is_fit, first_group}
 use Rattle.j39_audit.specs.declared.messages.Test.TheVariants.{Fitting, Selected, Any}
@@ -24,6 +24,7 @@ use Rattle.j39_audit.specs.declared.mark.Word.{Word}
 use Rattle.j39_audit.specs.declared.mark.Word.TheVariants.{Short, Stranger, Nobody as NobodyThere, Address, Cannot, Layout, NoFlow, Priority, Urgent, Seen}
 use Rattle.j39_audit.specs.declared.mark.Word.TheVariants.{Unclear, Asked, Counted, Unsure, Break, NearFlow, NearRequest, SilentFlow, Deaf, NearPackets}
 use Rattle.j39_audit.specs.declared.mark.Word.TheVariants.{SilentPackets, NearOrLate, SilentOrLate, Answered, Answers, Besides}
+use Rattle.j39_audit.specs.declared.mark.Word.TheVariants.{WrongAnnouncement, WrongGrant, WrongPacket, WrongReceipt}
 use Rattle.j39_audit_laws.specs.FoundLines.{IsAccusing}
 use Rattle.j39_audit_laws.proofs.Hits.{HaveWords, In, words_below, words_both, words_if}
 
@@ -77,11 +78,15 @@ unseen SilentOrLate is = absurd is
 unseen Answered is = absurd is
 unseen Answers is = absurd is
 unseen Besides is = absurd is
+unseen WrongAnnouncement is = absurd is
+unseen WrongGrant is = absurd is
+unseen WrongPacket is = absurd is
+unseen WrongReceipt is = absurd is
 
 abbrev every_word : List Word
 every_word = Short ∷ Stranger ∷ NobodyThere ∷ Address ∷ Cannot ∷ Layout ∷ NoFlow ∷ Priority ∷ Urgent ∷ Seen ∷ Unclear ∷ Asked
     ∷ Counted ∷ Unsure ∷ Break ∷ NearFlow ∷ NearRequest ∷ SilentFlow ∷ Deaf ∷ NearPackets ∷ SilentPackets ∷ NearOrLate ∷ SilentOrLate ∷ Answered ∷ Answers
-    ∷ Besides ∷ []
+    ∷ Besides ∷ WrongAnnouncement ∷ WrongGrant ∷ WrongPacket ∷ WrongReceipt ∷ []
 
 among_them : (w : Word) → (n : ℕ) × (slice_get every_word n ≡ Some w)
 among_them Short = (0, refl)
@@ -110,6 +115,10 @@ among_them SilentOrLate = (22, refl)
 among_them Answered = (23, refl)
 among_them Answers = (24, refl)
 among_them Besides = (25, refl)
+among_them WrongAnnouncement = (26, refl)
+among_them WrongGrant = (27, refl)
+among_them WrongPacket = (28, refl)
+among_them WrongReceipt = (29, refl)
 
 all_at : {X : Type 0} (p : X → Bool) (xs : List X) (n : ℕ) (x : X) → list_all p xs ≡ true → slice_get xs n ≡ Some x → p x ≡ true
 all_at p [] n x all at = absurd (none-some x at)
@@ -178,7 +187,9 @@ sender_of u f packet m e =
   where
     announced : (packet : Option Packet) → announced_by u f packet ≡ Some m → m.unit ≡ u
     announced None is = absurd (none-some m is)
-    announced (Some (Rts size limit pgn)) is = sym (ap (λ (x : SentMessage). x.unit) (same_Some (announced_message u f size pgn) m is))
+    announced (Some (Rts size limit pgn)) is =
+        cond_both (goes_to_another f) (Some (announced_message u f size pgn)) None (λ o. o ≡ Some m → m.unit ≡ u)
+        (λ _ e. sym (ap (λ (x : SentMessage). x.unit) (same_Some (announced_message u f size pgn) m e))) (λ _ e. absurd (none-some m e)) is
     announced (Some (Bam size pgn)) is = sym (ap (λ (x : SentMessage). x.unit) (same_Some (announced_message u f size pgn) m is))
     announced (Some (Cts count first pgn)) is = absurd (none-some m is)
     announced (Some (EndAck size pgn)) is = absurd (none-some m is)

@@ -8,7 +8,7 @@ use Rattle.std.proofs.lemmas.List.Elements.{Contains-append_left, Contains-get_o
 use Rattle.std.proofs.lemmas.List.Quantifiers.{all_pairs_push}
 use Rattle.j39_id.specs.Lines.{Line}
 use Rattle.j39_audit.specs.AuditPasts.{AuditPast, AuditsLine, AuditsLines, nothing_read}
-use Rattle.j39_audit.specs.AuditText.{is_of_asking, is_of_broadcasts, is_of_moments, look_at, is_of_load}
+use Rattle.j39_audit.specs.AuditText.{is_of_asking, is_of_broadcasts, is_of_sessions, is_of_moments, look_at, is_of_load}
 use Rattle.j39_audit.specs.AuditText.{mark_by_bus}
 use Rattle.j39_audit.specs.Counting.{Noted, most_times, reported_at, reported_in, occurrences_of}
 use Rattle.j39_audit.specs.Settings.{Settings}
@@ -17,6 +17,7 @@ use Rattle.j39_audit.specs.declared.mark.Word.{Word}
 use Rattle.j39_audit.specs.declared.mark.Word.TheVariants.{Short, Stranger, Nobody as NobodyThere, Address, Cannot, Layout, NoFlow, Priority, Urgent, Seen}
 use Rattle.j39_audit.specs.declared.mark.Word.TheVariants.{Unclear, Asked, Counted, Unsure, Break, NearFlow, NearRequest, SilentFlow, Deaf, NearPackets}
 use Rattle.j39_audit.specs.declared.mark.Word.TheVariants.{SilentPackets, NearOrLate, SilentOrLate, Answered, Answers, Besides}
+use Rattle.j39_audit.specs.declared.mark.Word.TheVariants.{WrongAnnouncement, WrongGrant, WrongPacket, WrongReceipt}
 use Rattle.j39_audit.specs.declared.tally.Occurrences.{Occurrences}
 use Rattle.j39_audit.proofs.Hearing.{line_more}
 use Rattle.j39_audit_laws.specs.FoundLines.{IsAccusing, IsFoundAt, IsLineOf, LinesAreOfLog, IsReportedAt}
@@ -166,17 +167,18 @@ record IsByFrames (w : Word) : Type 0 where
   load : is_of_load w ≡ false
   asking : is_of_asking w ≡ false
   broadcasts : is_of_broadcasts w ≡ false
+  sessions : is_of_sessions w ≡ false
 
 by_frames : (w : Word) → IsAccusing w → IsByFrames w
-by_frames Short is = record { moments = refl; load = refl; asking = refl; broadcasts = refl }
-by_frames Stranger is = record { moments = refl; load = refl; asking = refl; broadcasts = refl }
-by_frames NobodyThere is = record { moments = refl; load = refl; asking = refl; broadcasts = refl }
-by_frames Address is = record { moments = refl; load = refl; asking = refl; broadcasts = refl }
-by_frames Cannot is = record { moments = refl; load = refl; asking = refl; broadcasts = refl }
-by_frames Layout is = record { moments = refl; load = refl; asking = refl; broadcasts = refl }
-by_frames NoFlow is = record { moments = refl; load = refl; asking = refl; broadcasts = refl }
-by_frames Priority is = record { moments = refl; load = refl; asking = refl; broadcasts = refl }
-by_frames Urgent is = record { moments = refl; load = refl; asking = refl; broadcasts = refl }
+by_frames Short is = record { moments = refl; load = refl; asking = refl; broadcasts = refl; sessions = refl }
+by_frames Stranger is = record { moments = refl; load = refl; asking = refl; broadcasts = refl; sessions = refl }
+by_frames NobodyThere is = record { moments = refl; load = refl; asking = refl; broadcasts = refl; sessions = refl }
+by_frames Address is = record { moments = refl; load = refl; asking = refl; broadcasts = refl; sessions = refl }
+by_frames Cannot is = record { moments = refl; load = refl; asking = refl; broadcasts = refl; sessions = refl }
+by_frames Layout is = record { moments = refl; load = refl; asking = refl; broadcasts = refl; sessions = refl }
+by_frames NoFlow is = record { moments = refl; load = refl; asking = refl; broadcasts = refl; sessions = refl }
+by_frames Priority is = record { moments = refl; load = refl; asking = refl; broadcasts = refl; sessions = refl }
+by_frames Urgent is = record { moments = refl; load = refl; asking = refl; broadcasts = refl; sessions = refl }
 by_frames Seen is = absurd is
 by_frames Unclear is = absurd is
 by_frames Asked is = absurd is
@@ -194,16 +196,21 @@ by_frames SilentOrLate is = absurd is
 by_frames Answered is = absurd is
 by_frames Answers is = absurd is
 by_frames Besides is = absurd is
+by_frames WrongAnnouncement is = absurd is
+by_frames WrongGrant is = absurd is
+by_frames WrongPacket is = absurd is
+by_frames WrongReceipt is = absurd is
 
 pub looked : (end : AuditPast) (m : Mark) → IsAccusing m.word → reported_in end.noted m ≡ look_at end m
 looked end m is =
     let by = by_frames m.word is in
     let late = reported_in end.by_load.untimely (mark_by_bus m) in
-    let by_packets : Bool → Occurrences = λ b. cond b (reported_in end.broadcasts.late m) (reported_in end.noted m) in
+    let by_sessions : Bool → Occurrences = λ b. cond b (reported_in end.sessions.told m) (reported_in end.noted m) in
+    let by_packets : Bool → Occurrences = λ b. cond b (reported_in end.broadcasts.late m) (by_sessions (is_of_sessions m.word)) in
     let by_asking : Bool → Occurrences = λ b. cond b (reported_in end.asking.deaf m) (by_packets (is_of_broadcasts m.word)) in
     let by_load : Bool → Occurrences = λ b. cond b late (by_asking (is_of_asking m.word)) in
     sym (ap (λ (b : Bool). cond b (reported_in end.moments.untimely m) (by_load (is_of_load m.word))) by.moments
-    ∙ ap by_load by.load ∙ ap by_asking by.asking ∙ ap by_packets by.broadcasts)
+    ∙ ap by_load by.load ∙ ap by_asking by.asking ∙ ap by_packets by.broadcasts ∙ ap by_sessions by.sessions)
 
 pub lines_are_of_log : LinesAreOfLog
 lines_are_of_log s log end read m accuses =

@@ -26,6 +26,7 @@ use Rattle.j39_audit.specs.declared.mark.Word.{Word}
 use Rattle.j39_audit.specs.declared.mark.Word.TheVariants.{Short, Stranger, Nobody as NobodyThere, Address, Cannot, Layout, NoFlow, Priority, Urgent, Seen}
 use Rattle.j39_audit.specs.declared.mark.Word.TheVariants.{Unclear, Asked, Counted, Unsure, Break, NearFlow, NearRequest, SilentFlow, Deaf, NearPackets}
 use Rattle.j39_audit.specs.declared.mark.Word.TheVariants.{SilentPackets, NearOrLate, SilentOrLate, Answered, Answers, Besides}
+use Rattle.j39_audit.specs.declared.mark.Word.TheVariants.{WrongAnnouncement, WrongGrant, WrongPacket, WrongReceipt}
 use Rattle.j39_audit.specs.declared.messages.Test.TheVariants.{Any}
 use Rattle.j39_audit.specs.declared.tally.Occurrences.{Occurrences}
 use Rattle.j39_audit_laws.specs.FoundLines.{Differs, IsAccusing, IsFoundAt, IsFrameAt, IsAccusedAs, IsReportedAt}
@@ -84,6 +85,10 @@ stated_itself look SilentOrLate u g is = absurd is
 stated_itself look Answered u g is = absurd is
 stated_itself look Answers u g is = absurd is
 stated_itself look Besides u g is = absurd is
+stated_itself look WrongAnnouncement u g is = absurd is
+stated_itself look WrongGrant u g is = absurd is
+stated_itself look WrongPacket u g is = absurd is
+stated_itself look WrongReceipt u g is = absurd is
 
 pub none_of_subject : (s : Settings) (log : List Line) (word : Word) (u : ℕ) → IsAccusing word → ((g n : ℕ) → ¬ IsFoundAt s log n (mark_at word u g))
     → IsNotNamed s log word u

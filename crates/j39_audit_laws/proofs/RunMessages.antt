@@ -1,6 +1,6 @@
 -- What the messages of a run are by the plan: of flows of their senders, that go where the flows go.
 use Rattle.std.proofs.Common.{◌≡◌, ◌≢◌, ◌⊎◌, ℕ, ◌+◌, ◌*◌, ◌/◌, ◌%◌, ◌^◌, ◌<◌, ◌≤◌, nat_le, List, Bool, true, false, length, if◌then◌else◌}
-use Rattle.std.proofs.Common.{inl, inr, refl, sym, ap, ◌∙◌, subst, arith, Option, Some, None}
+use Rattle.std.proofs.Common.{cond, inl, inr, refl, sym, ap, ◌∙◌, subst, arith, Option, Some, None}
 use Rattle.std.specs.Prelude.{slice_index}
 use Rattle.std.proofs.lemmas.Bool.{and_parts, cases_Bool, leb-true, true≢false}
 use Rattle.std.proofs.lemmas.Option.{none-some, same_Some}
@@ -30,7 +30,7 @@ use Rattle.j39_log_laws.proofs.Identifiers.{IsOther, IsSentAs, sent_as}
 use Rattle.j39_log_laws.proofs.SentFrames.{no_transport, planned_number}
 use Rattle.j39_log_laws.proofs.HolderReports.{flow_other, packet_group}
 use Rattle.j39_audit.specs.Claiming.{Knowledge}
-use Rattle.j39_audit.specs.Looking.{IsPacketOf, announced_by, announced_message, is_single, message_sent, single}
+use Rattle.j39_audit.specs.Looking.{IsPacketOf, announced_by, announced_message, goes_to_another, is_single, message_sent, single}
 use Rattle.j39_audit.specs.SentMessages.{SentMessage}
 use Rattle.j39_audit_laws.specs.OwnPart.{GoesAsPlanned, IsItsAddress, IsOfFlowPlanned}
 use Rattle.j39_audit_laws.proofs.RunKept.{IsKnown, flow_planned, its_own, own}
@@ -71,6 +71,10 @@ pub record IsAnnouncement (u : ℕ) (f : Frame) (m : SentMessage) : Type 0 where
   pub announces : Announces f.payload.items size number
   pub message_is : announced_message u f size number ≡ m
 
+if_some : (b : Bool) (x m : SentMessage) → cond b (Some x) None ≡ Some m → x ≡ m
+if_some true x m e = same_Some x m e
+if_some false x m e = absurd (none-some m e)
+
 pub announced : (u : ℕ) (f : Frame) (packet : Option Packet) (m : SentMessage) → IsPacketOf f packet → announced_by u f packet ≡ Some m
     → IsAnnouncement u f m
 announced u f (Some (Rts size limit n)) m (inl (management, reads, to)) e =
@@ -80,7 +84,7 @@ announced u f (Some (Rts size limit n)) m (inl (management, reads, to)) e =
       number = n;
       management = management;
       announces = record { control = inl control; size_is = gives.size_is; number_is = number };
-      message_is = same_Some (announced_message u f size n) m e;
+      message_is = if_some (goes_to_another f) (announced_message u f size n) m e;
     }
 announced u f (Some (Bam size n)) m (inl (management, reads, to)) e =
     let (control, gives, number) = reads.fields in

@@ -18,6 +18,7 @@ use Rattle.j39_audit.specs.declared.mark.Word.{Word}
 use Rattle.j39_audit.specs.declared.mark.Word.TheVariants.{Short, Stranger, Nobody as NobodyThere, Address, Cannot, Layout, NoFlow, Priority, Urgent, Seen}
 use Rattle.j39_audit.specs.declared.mark.Word.TheVariants.{Unclear, Asked, Counted, Unsure, Break, NearFlow, NearRequest, SilentFlow, Deaf, NearPackets}
 use Rattle.j39_audit.specs.declared.mark.Word.TheVariants.{SilentPackets, NearOrLate, SilentOrLate, Answered, Answers, Besides}
+use Rattle.j39_audit.specs.declared.mark.Word.TheVariants.{WrongAnnouncement, WrongGrant, WrongPacket, WrongReceipt}
 use Rattle.j39_audit.specs.declared.tally.Occurrences.{Occurrences}
 use Rattle.j39_audit_laws.specs.FoundForSure.{FoundAreWritten, IsWrittenIn}
 use Rattle.j39_audit_laws.specs.FoundLines.{IsAccusing, IsFoundAt, IsReportedAt}
@@ -77,7 +78,7 @@ pub record Says (s : Settings) (look : Look) (m : Mark) : Type 0 where
   pub line : IsIn (accusing_line s.plan m (look m)) (accusations s look)
   pub counted : 1 ≤ accusation_count s look
 
-pub says : (s : Settings) (look : Look) (w : Word) (u g n : ℕ) (m : Mark) → n < 15 → accusing_at n ≡ w → u < subjects s w → g < groups_named s w
+pub says : (s : Settings) (look : Look) (w : Word) (u g n : ℕ) (m : Mark) → n < 19 → accusing_at n ≡ w → u < subjects s w → g < groups_named s w
     → reported_mark look w u g ≡ m → (look m).times ≢ 0 → Says s look m
 unfolding accusations word_lines subject_lines line_reported line_of_mark accusation_count word_count subject_count lines_reported
 says s look w u g n m place word subject group stated some =
@@ -92,10 +93,10 @@ says s look w u g n m place word subject group stated some =
     ap (λ (x : Mark). lines_reported (look x)) stated ∙ cond-false ((look m).times == 0) 0 1 test in
     let by_group = some_below (λ i. lines_reported (look (reported_mark look w u i))) g (groups_named s w) group in
     let by_subject = some_below (subject_count s look w) u (subjects s w) subject in
-    let by_word = some_below (λ i. word_count s look (accusing_at i)) n 15 place in
+    let by_word = some_below (λ i. word_count s look (accusing_at i)) n 19 place in
     let same : word_count s look (accusing_at n) ≡ word_count s look w = ap (word_count s look) word in
     record {
-      line = in_below part (λ i. word_lines s look (accusing_at i)) n 15 place
+      line = in_below part (λ i. word_lines s look (accusing_at i)) n 19 place
           (subst (λ (x : Word). IsIn part (word_lines s look x)) (sym word) of_word);
       counted = omega (arith, one, by_group, by_subject, by_word, same);
     }
@@ -125,7 +126,7 @@ said s log text verdict a m is =
 -- where the word of a line stands among those that accuse
 record HasPlace (w : Word) : Type 0 where
   place : ℕ
-  inside : place < 15
+  inside : place < 19
   is : accusing_at place ≡ w
 
 place_of : (w : Word) → IsAccusing w → HasPlace w
@@ -155,6 +156,10 @@ place_of SilentOrLate is = absurd is
 place_of Answered is = absurd is
 place_of Answers is = absurd is
 place_of Besides is = absurd is
+place_of WrongAnnouncement is = absurd is
+place_of WrongGrant is = absurd is
+place_of WrongPacket is = absurd is
+place_of WrongReceipt is = absurd is
 
 -- what is reported at some line is reported at least once
 stated_once : (s : Settings) (log : List Line) (m : Mark) (t : Occurrences) (number : ℕ) → IsReportedAt s log m t → IsFoundAt s log number m → t.times ≢ 0

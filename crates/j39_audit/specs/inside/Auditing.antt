@@ -9,7 +9,7 @@ use Rattle.j39_network.specs.declared.plan.Plan.{Plan}
 use Rattle.j39_stream.specs.declared.verdict.Verdict.{Verdict}
 use Rattle.j39_tp.specs.declared.packet.Packet.{Packet}
 use Rattle.j39_audit.specs.AuditPasts.{AuditPast, AuditsLines, AuditsShort, TakesFrame, log_ended, noted_newly, nothing_read, past_with_frame}
-use Rattle.j39_audit.specs.AuditText.{Look, accusation_count, flow_seen, request_seen, unit_seen, is_of_asking, is_of_broadcasts, is_of_moments, text_by, verdict_by, is_of_load, mark_by_bus}
+use Rattle.j39_audit.specs.AuditText.{Look, accusation_count, flow_seen, request_seen, unit_seen, is_of_asking, is_of_broadcasts, is_of_moments, is_of_sessions, text_by, verdict_by, is_of_load, mark_by_bus}
 use Rattle.j39_audit.specs.Asking.{with_sign_of}
 use Rattle.j39_audit.specs.BegunBroadcasts.{broadcasts_behind, packet_with}
 use Rattle.j39_audit.specs.Below.{each_below}
@@ -19,6 +19,7 @@ use Rattle.j39_audit.specs.Looking.{IsPacketOf}
 use Rattle.j39_audit.specs.MessageStreams.{nothing_sighted, sighted_behind}
 use Rattle.j39_audit.specs.Moments.{moments_behind, with_packet_stream}
 use Rattle.j39_audit.specs.Settings.{Settings, by_load as judged_by_load}
+use Rattle.j39_audit.specs.ToldSessions.{sessions_with_frame}
 use Rattle.j39_audit.specs.declared.announcements.Announcement.{Announcement}
 use Rattle.j39_audit.specs.declared.audit_log.AuditLog.{AuditLog}
 use Rattle.j39_audit.specs.declared.mark.Mark.{Mark}
@@ -26,7 +27,7 @@ use Rattle.j39_audit.specs.declared.mark.Word.{Word}
 use Rattle.j39_audit.specs.declared.mark.Word.TheVariants.{Seen, Asked}
 use Rattle.j39_audit.specs.declared.pauses.Ending.{Ending}
 use Rattle.j39_audit.specs.declared.tally.Occurrences.{Occurrences}
-use Rattle.j39_audit.specs.inside.Recalling.{AreCounted, AreNear, KnowsClaims, RecallsAsking, RecallsBroadcasts, RecallsMoments, tallied_at, settings_of}
+use Rattle.j39_audit.specs.inside.Recalling.{AreCounted, AreNear, KnowsClaims, RecallsAsking, RecallsBroadcasts, RecallsMoments, RecallsSessions, tallied_at, settings_of}
 
 -- what was found of a mark
 unfoldable pub tallied : AuditLog → Mark → Occurrences
@@ -34,7 +35,8 @@ tallied log m =
     if is_of_moments m.word then tallied_at log.moments.untimely (key_of m)
     else if is_of_load m.word then tallied_at log.by_load.untimely (key_of (mark_by_bus m))
     else if is_of_asking m.word then tallied_at log.asking.deaf (key_of m)
-    else if is_of_broadcasts m.word then tallied_at log.broadcasts.late (key_of m) else tallied_at log.tally (key_of m)
+    else if is_of_broadcasts m.word then tallied_at log.broadcasts.late (key_of m)
+    else if is_of_sessions m.word then tallied_at log.sessions.told (key_of m) else tallied_at log.tally (key_of m)
 
 -- ---- what was seen
 
@@ -54,7 +56,7 @@ all_seen word plan look = each_below (seen_at word plan look) (seen_places word 
 
 -- ---- a log
 
--- the claims, what was noted, the newest time, that of the frame before, what times report, who is asked and the planned broadcasts are these
+-- the claims, what was noted, the newest time, that of the frame before, what times report, who is asked, the planned broadcasts and the sessions are these
 pub record AccordsWith (log : AuditLog) (past : AuditPast) : Type 0 where
   pub knows : KnowsClaims (settings_of log.basis) log.known past.claims
   pub counted : AreCounted log.tally past.noted
@@ -64,6 +66,7 @@ pub record AccordsWith (log : AuditLog) (past : AuditPast) : Type 0 where
   pub by_load : RecallsMoments log.by_load past.by_load
   pub asking : RecallsAsking (settings_of log.basis) log.asking past.asking
   pub broadcasts : RecallsBroadcasts (settings_of log.basis) log.broadcasts past.broadcasts
+  pub sessions : RecallsSessions log.sessions past.sessions
 
 -- what was read so far is this
 pub record RecallsAudit (log : AuditLog) (past : AuditPast) : Type 0 where
@@ -77,16 +80,17 @@ pub record RecallsAudit (log : AuditLog) (past : AuditPast) : Type 0 where
   pub bad_are : log.counts.bad ≡ past.bad
   pub elsewhere_are : log.counts.elsewhere ≡ past.elsewhere
 
--- what times report, who is asked and the planned broadcasts are these
+-- what times report, who is asked, the planned broadcasts and the sessions are these
 pub record RecallsTimes (s : Settings) (log : AuditLog) (past : AuditPast) : Type 0 where
   pub moments : RecallsMoments log.moments past.moments
   pub by_load : RecallsMoments log.by_load past.by_load
   pub asking : RecallsAsking s log.asking past.asking
   pub broadcasts : RecallsBroadcasts s log.broadcasts past.broadcasts
+  pub sessions : RecallsSessions log.sessions past.sessions
 
 -- nothing but this is new
 abbrev pub AreOnlyTimesNew : AuditLog → AuditLog → Type 0
-AreOnlyTimesNew old new = new ≡ record old { moments = new.moments; by_load = new.by_load; asking = new.asking; broadcasts = new.broadcasts }
+AreOnlyTimesNew old new = new ≡ record old { moments = new.moments; by_load = new.by_load; asking = new.asking; broadcasts = new.broadcasts; sessions = new.sessions }
 
 -- for whom a frame counts of which this was noted
 abbrev pub noted_unit : List Noted → Option ℕ
@@ -101,6 +105,7 @@ times_behind s k gap anew time f line noted ending announced past = record past 
   asking = with_sign_of s.plan.timing (noted_unit noted) (moments_behind s gap anew time f line noted ending past.moments).since past.asking;
   broadcasts = broadcasts_behind s k (noted_unit noted) f announced time (moments_behind s gap anew time f line noted ending past.moments).since line
       past.broadcasts;
+  sessions = sessions_with_frame s (noted_unit noted) f line past.sessions;
 }
 
 -- a frame of this time and of a line of this interface, as some packet or none, leads to what is followed now, and was seen so

@@ -3,6 +3,7 @@ use Rattle.std.specs.Prelude.{◌≡◌, ℕ, ◌+◌, ◌*◌, ◌++◌, ◌^�
 use Rattle.std.specs.HashMap.{get}
 use Rattle.std.specs.Option.{option_copied}
 use Rattle.j39_network.specs.declared.plan.Plan.{Plan}
+use Rattle.j39_sessions.specs.Recalling.{Recalls}
 use Rattle.j39_audit.specs.Asking.{Asking}
 use Rattle.j39_audit.specs.BegunBroadcasts.{BegunBroadcasts}
 use Rattle.j39_audit.specs.Claiming.{HeardClaims, Knowledge, knowledge}
@@ -28,6 +29,8 @@ use Rattle.j39_audit.specs.Requests.{GroupRequests}
 use Rattle.j39_audit.specs.declared.requests.Requests.{Requests as KeptRequests}
 use Rattle.j39_audit.specs.declared.senders.SureSender.{SureSender}
 use Rattle.j39_audit.specs.declared.senders.SureSender.TheVariants.{Unit as OfUnit, Nobody, Unknown}
+use Rattle.j39_audit.specs.ToldSessions.{ToldSessions}
+use Rattle.j39_audit.specs.declared.session_marks.SessionMarks.{SessionMarks}
 use Rattle.j39_audit.specs.declared.tally.MarkTally.{MarkTally}
 use Rattle.j39_audit.specs.declared.tally.Occurrences.{Occurrences}
 
@@ -126,6 +129,13 @@ pub record RecallsBroadcasts (s : Settings) (kept : KeptBroadcasts) (b : BegunBr
   pub size : length kept.begun.items ≡ length s.plan.units.items
   pub begun : IsKeptAt kept.begun.items kept.is_open b.begun
   pub counted : AreCounted kept.late b.late
+
+-- ---- sessions
+
+-- the sessions and what was found of them are kept
+pub record RecallsSessions (kept : SessionMarks) (m : ToldSessions) : Type 0 where
+  pub sessions : Recalls kept.sessions m.sessions
+  pub counted : AreCounted kept.told m.told
 
 -- ---- claims
 

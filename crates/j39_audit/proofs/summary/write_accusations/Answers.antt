@@ -27,5 +27,5 @@ pub returns : goal.returns
 unfolding accusations accusation_count
 returns c =
     let before = c.loop-place.invariant in
-    let all = written_all 15 (omega (arith, c.loop-place-test.false, before.within)) before.written in
+    let all = written_all 19 (omega (arith, c.loop-place-test.false, before.within)) before.written in
     record { text = all.text_is; count = all.count_is }

@@ -10,5 +10,5 @@ invariant-loop-place l = record {
   written : AreLinesWritten l.initial.text l.text l.count (λ n. word_lines (settings_of l.basis) (tallied l.log) (accusing_at n))
       (λ n. word_count (settings_of l.basis) (tallied l.log) (accusing_at n)) l.place;
   few : l.count ≤ 131072 * l.place;
-  within : l.place ≤ 15;
+  within : l.place ≤ 19;
 }

@@ -25,6 +25,7 @@ returns c =
               (c.by_load.ensures ∙ ap (λ (t : Settings). by_load t) audited.settings_are) (ended audited.past.by_load old.follows.by_load);
           asking = old.follows.asking;
           broadcasts = old.follows.broadcasts;
+          sessions = old.follows.sessions;
         };
         number_is = old.number_is;
         interface_is = old.interface_is;

@@ -6,7 +6,7 @@ use Rattle.j39_audit.proofs.audit_log.AuditLog.new.Goals as goal
 
 pub returns-clause-nothing : goal.returns-clause-nothing
 returns-clause-nothing c =
-    let none = c.new-7.ensures in
+    let none = c.new-8.ensures in
     record {
       past = nothing_read;
       read = refl;
@@ -20,6 +20,7 @@ returns-clause-nothing c =
           by_load = c.in_ok-by_load.ensures.moments;
           asking = c.in_ok-asking.ensures;
           broadcasts = c.in_ok-broadcasts.ensures;
+          sessions = c.new-7.ensures;
         };
         number_is = refl;
         interface_is = refl;
@@ -37,7 +38,7 @@ returns-clause-nothing c =
 pub returns-clause-within : goal.returns-clause-within
 returns-clause-within c = record {
   number = omega arith;
-  counts = subst (λ (k : LineCounts). AreWithin k 0) (sym c.new-7.ensures)
+  counts = subst (λ (k : LineCounts). AreWithin k 0) (sym c.new-8.ensures)
       (record { frames = omega arith; skipped = omega arith; bad = omega arith; elsewhere = omega arith });
   near = record { by_bus = c.in_ok-moments.ensures.near; by_load = c.in_ok-by_load.ensures.near };
 }

@@ -19,6 +19,7 @@ returns-clause-fault c =
             (passed past.by_load recalls.follows.by_load);
         asking = c.forget_all.ensures past.asking recalls.follows.asking;
         broadcasts = c.forget_all-2.ensures past.broadcasts recalls.follows.broadcasts;
+        sessions = c.forget.ensures past.sessions recalls.follows.sessions;
       };
       number_is = recalls.number_is;
       interface_is = recalls.interface_is;

@@ -26,6 +26,7 @@ returns-clause-fault c = λ past recalls.
         by_load = c.pass_over-2.ensures.moments past.by_load recalls.follows.by_load;
         asking = recalls.follows.asking;
         broadcasts = recalls.follows.broadcasts;
+        sessions = recalls.follows.sessions;
       };
       number_is = recalls.number_is;
       interface_is = recalls.interface_is;

@@ -26,6 +26,7 @@ returns-clause-again c = λ past recalls.
         by_load = recalls.follows.by_load;
         asking = recalls.follows.asking;
         broadcasts = recalls.follows.broadcasts;
+        sessions = recalls.follows.sessions;
       };
       number_is = recalls.number_is;
       interface_is = recalls.interface_is;

@@ -16,6 +16,7 @@ use Rattle.j39_audit.specs.Looking.{IsPacketOf, break_noted, frame_noted}
 use Rattle.j39_audit.specs.MessageStreams.{nothing_sighted, sighted_behind}
 use Rattle.j39_audit.specs.Moments.{begins_anew}
 use Rattle.j39_audit.specs.Pauses.{ending_of, unclear_behind}
+use Rattle.j39_audit.specs.ToldSessions.{sessions_before}
 use Rattle.j39_audit.specs.declared.announcements.Announcement.{Announcement}
 use Rattle.j39_audit.specs.declared.audit_log.AuditLog.{AuditLog}
 use Rattle.j39_audit.specs.declared.pauses.Ending.{Ending}
@@ -63,22 +64,24 @@ returns-clause-frame c =
     let ending : c.ending_of-ending.result ≡ ending_of s (knowledge s before) f = c.ending_of-ending.ensures
     ∙ ap (λ (k : Knowledge). ending_of s k f) same_known in
     let known_behind = known_knowledge s c.take_frame.new.known (claims_with_frame s past time f) took.0 in
-    let there : Knowledge → Bool → Bool → Ending → ℕ → AuditPast = λ k b a e n. record past {
+    let there : Knowledge → Bool → Bool → Bool → Ending → ℕ → AuditPast = λ k o b a e n. record past {
       asking = asked_behind s k b a time f n past.asking;
       broadcasts = broadcasts_before a b e past.broadcasts;
+      sessions = sessions_before o b past.sessions;
     } in
-    let times : Knowledge → Knowledge → Bool → Bool → Ending → Option Announcement → ℕ → AuditPast = λ k l b a e x n.
-    times_behind s l b a time f n (lines n) e x (there k b a e n) in
-    let took_times = c.in_ok-take_times.ensures.times (there _ c.ends_gap-gap.result c.begins_anew-anew.result c.ending_of-ending.result number_now)
+    let times : Knowledge → Knowledge → Bool → Bool → Bool → Ending → Option Announcement → ℕ → AuditPast = λ k l o b a e x n.
+    times_behind s l b a time f n (lines n) e x (there k o b a e n) in
+    let took_times = c.in_ok-take_times.ensures.times (there _ c.breaks-broken.result c.ends_gap-gap.result c.begins_anew-anew.result c.ending_of-ending.result number_now)
     (lines number_now)
     (record {
       moments = accords.moments;
       by_load = accords.by_load;
       asking = c.take.ensures past.asking accords.asking;
       broadcasts = c.come_to-2.ensures past.broadcasts accords.broadcasts;
+      sessions = c.come_to-3.ensures past.sessions accords.sessions;
     }) sights unclear in
     let are = subst (λ (p : AuditPast). RecallsTimes s c.take_times.new.self p)
-    (λ i. times (same_known i) (known_behind i) (gap i) (anew i) (ending i) (c.announcement_in-announced.ensures i) (number i)) took_times in
+    (λ i. times (same_known i) (known_behind i) (broken i) (gap i) (anew i) (ending i) (c.announcement_in-announced.ensures i) (number i)) took_times in
     let kept = sym c.take_times.ensures.kept in
     let heard = claims_with_frame s past time f in
     let last = c.take_request.new.self in
@@ -99,6 +102,7 @@ returns-clause-frame c =
         by_load = are.by_load;
         asking = are.asking;
         broadcasts = are.broadcasts;
+        sessions = are.sessions;
       };
       sights = requested;
     }) is_asked)

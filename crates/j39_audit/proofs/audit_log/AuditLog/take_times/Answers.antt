@@ -3,9 +3,10 @@ use Rattle.j39_audit.specs.Asking.{with_sign_of}
 use Rattle.j39_audit.specs.BegunBroadcasts.{broadcasts_behind, packet_with}
 use Rattle.j39_audit.specs.Moments.{moments_behind, with_packet_stream}
 use Rattle.j39_audit.specs.Settings.{Settings}
+use Rattle.j39_audit.specs.ToldSessions.{sessions_with_frame}
 use Rattle.j39_audit.specs.declared.tally.Sighting.{Sighting}
 use Rattle.j39_audit.specs.inside.Auditing.{noted_unit}
-use Rattle.j39_audit.specs.inside.Recalling.{RecallsAsking, RecallsBroadcasts, RecallsMoments, known_by, settings_of}
+use Rattle.j39_audit.specs.inside.Recalling.{RecallsAsking, RecallsBroadcasts, RecallsMoments, RecallsSessions, known_by, settings_of}
 use Rattle.j39_audit.proofs.audit_log.AuditLog.take_times.Goals as goal
 
 pub returns-clause-times : goal.returns-clause-times
@@ -35,4 +36,6 @@ returns-clause-times c = λ past noted before sights unclear.
           (subst (λ (q : Option ℕ). RecallsBroadcasts s begun
           (broadcasts_behind s (known_by old.known) old.tally.sighting.unit f c.args.announced c.args.time q line past.broadcasts)) looked.since
           (c.in_ok-take_packet.ensures.broadcasts past.broadcasts before.broadcasts));
+      sessions = subst (λ (u : Option ℕ). RecallsSessions c.take.new.self (sessions_with_frame s u f line past.sessions)) unit
+          (c.in_ok-take.ensures past.sessions before.sessions);
     }

@@ -1,0 +1,4 @@
+pub mod Recalling
+pub mod SessionFrames
+pub mod SessionLaws
+pub mod Sessions
