@@ -2,8 +2,8 @@
 use Rattle.std.specs.Prelude.{ℕ, ◌||◌, Bool, if◌then◌else◌, List, [], ◌∷◌, ◌++◌, Option, Some, None}
 use Rattle.j39_id.specs.declared.frame.Frame.{Frame}
 use Rattle.j39_sessions.specs.Sessions.{AllSessions, fault_at, no_sessions, sessions_behind}
-use Rattle.j39_sessions.specs.declared.fault.Fault.{Fault}
-use Rattle.j39_sessions.specs.declared.fault.Fault.TheVariants.{Announcement, Grant, Packet, Acknowledged}
+use Rattle.j39_sessions.specs.declared.fault.SessionFault.{SessionFault}
+use Rattle.j39_sessions.specs.declared.fault.SessionFault.TheVariants.{Announcement, Grant, Packet, Acknowledged}
 use Rattle.j39_audit.specs.Counting.{Noted}
 use Rattle.j39_audit.specs.SentMessages.{noted_at}
 use Rattle.j39_audit.specs.Settings.{Settings}
@@ -29,15 +29,15 @@ sessions_before broken gap m = if broken then forgotten m else if gap then forgo
 
 -- ---- a frame
 
-abbrev pub word_of : Fault → Word
-word_of Announcement = WrongAnnouncement
-word_of Grant = WrongGrant
-word_of Packet = WrongPacket
-word_of Acknowledged = WrongReceipt
+abbrev pub word_of_fault : SessionFault → Word
+word_of_fault Announcement = WrongAnnouncement
+word_of_fault Grant = WrongGrant
+word_of_fault Packet = WrongPacket
+word_of_fault Acknowledged = WrongReceipt
 
 -- of a frame nothing is told whose unit isn't known
-abbrev pub fault_noted : Option ℕ → ℕ → Option Fault → List Noted
-fault_noted (Some u) line (Some fault) = noted_at line (word_of fault) u 0 ∷ []
+abbrev pub fault_noted : Option ℕ → ℕ → Option SessionFault → List Noted
+fault_noted (Some u) line (Some fault) = noted_at line (word_of_fault fault) u 0 ∷ []
 fault_noted _ line _ = []
 
 abbrev pub sessions_with : Option ℕ → Frame → ℕ → ToldSessions → ToldSessions

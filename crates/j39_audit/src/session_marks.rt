@@ -1,14 +1,14 @@
 //! What is told of sessions of the transport protocol.
 ghost use Rattle.std.specs.Prelude.{◌≡◌, OnOk};
 ghost use Rattle.j39_audit.specs.ToldSessions.{ToldSessions, fault_noted, forgotten, no_sessions_told, sessions_before};
-ghost use Rattle.j39_audit.specs.ToldSessions.{sessions_with, sessions_with_frame, word_of};
+ghost use Rattle.j39_audit.specs.ToldSessions.{sessions_with, sessions_with_frame, word_of_fault};
 ghost use Rattle.j39_audit.specs.inside.Recalling.{Notes, RecallsSessions, settings_of};
 
 use crate::basis::Basis;
 use crate::mark::{Word, make_mark};
 use crate::tally::MarkTally;
 use j39_id::Frame;
-use j39_sessions::{Fault, Sessions};
+use j39_sessions::{SessionFault, Sessions};
 use std::alloc::{AllocError, Global};
 
 /// The sessions that frames showed, and what was found of them.
@@ -18,14 +18,14 @@ pub(crate) struct SessionMarks {
     pub told: MarkTally,
 }
 
-fn word_of(fault: Fault) -> Word
-    ensures { result ≡ word_of fault }
+fn word_of_fault(fault: SessionFault) -> Word
+    ensures { result ≡ word_of_fault fault }
 {
     match fault {
-        Fault::Announcement => Word::WrongAnnouncement,
-        Fault::Grant => Word::WrongGrant,
-        Fault::Packet => Word::WrongPacket,
-        Fault::Acknowledged => Word::WrongReceipt,
+        SessionFault::Announcement => Word::WrongAnnouncement,
+        SessionFault::Grant => Word::WrongGrant,
+        SessionFault::Packet => Word::WrongPacket,
+        SessionFault::Acknowledged => Word::WrongReceipt,
     }
 }
 
@@ -33,7 +33,7 @@ fn word_of(fault: Fault) -> Word
 fn note_fault(
     told: &mut MarkTally,
     unit: Option<usize>,
-    fault: Option<Fault>,
+    fault: Option<SessionFault>,
     line: u64,
 ) -> Result<(), AllocError>
     ensures { OnOk result (Notes told.old told.new (fault_noted unit line fault)) }
@@ -42,7 +42,7 @@ fn note_fault(
         return Ok(());
     };
     match fault {
-        Some(fault) => told.note(make_mark(word_of(fault), unit), line, 0),
+        Some(fault) => told.note(make_mark(word_of_fault(fault), unit), line, 0),
         None => Ok(()),
     }
 }

@@ -11,7 +11,7 @@ use Rattle.j39_sessions.specs.declared.role.Clearance.{Clearance}
 use Rattle.j39_sessions.specs.declared.role.Receipt.{Receipt}
 use Rattle.j39_sessions.specs.declared.role.Role.{Role}
 use Rattle.j39_sessions.specs.declared.role.Role.TheVariants.{Begins, Breaks, Clears, Acknowledges, Carries, Nothing}
-use Rattle.j39_sessions.specs.declared.session.Session.{Session}
+use Rattle.j39_sessions.specs.declared.session.LoggedSession.{LoggedSession}
 
 -- ---- bytes
 
@@ -32,15 +32,15 @@ announces bytes = begins_with rts_control bytes || begins_with bam_control bytes
 abbrev pub has_size : List ℕ → Bool
 has_size bytes = is_size (size_in bytes) && slice_index bytes 3 == packets_of (size_in bytes)
 
-abbrev pub gives_size : List ℕ → Bool
-gives_size bytes = length bytes == 8 && has_size bytes
+abbrev pub states_size : List ℕ → Bool
+states_size bytes = length bytes == 8 && has_size bytes
 
 -- an RTS goes to another address up to 253, a BAM to all
 abbrev pub goes_rightly : Ident → List ℕ → Bool
 goes_rightly i bytes = if begins_with rts_control bytes then is_address i.ps && not (i.ps == i.sa) else i.ps == global_address
 
 abbrev pub is_right : Ident → List ℕ → Bool
-is_right i bytes = gives_size bytes && goes_rightly i bytes
+is_right i bytes = states_size bytes && goes_rightly i bytes
 
 -- a frame announces nothing, or as an announcement may
 abbrev pub announces_rightly : Frame → Bool
@@ -55,8 +55,8 @@ abbrev pub numbers : ℕ
 numbers = 256
 
 -- the session that an RTS begins: no CTS has cleared a packet of it, and none was sent
-abbrev pub opened : List ℕ → Session
-opened bytes = record {
+abbrev pub session_opened : List ℕ → LoggedSession
+session_opened bytes = record {
   group = pgn_in bytes;
   size = size_in bytes;
   count = slice_index bytes 3;
@@ -69,7 +69,7 @@ opened bytes = record {
 abbrev pub announcement_role : Ident → List ℕ → Role
 announcement_role i bytes =
     if not (is_right i bytes) then Breaks
-    else if begins_with rts_control bytes && is_address i.sa then Begins (opened bytes) else Nothing
+    else if begins_with rts_control bytes && is_address i.sa then Begins (session_opened bytes) else Nothing
 
 -- ---- what receivers send
 
@@ -81,8 +81,8 @@ abbrev pub clearance_in : List ℕ → Clearance
 clearance_in bytes = record { group = pgn_in bytes; count = slice_index bytes 1; first = slice_index bytes 2 }
 
 -- an acknowledgement of a whole message
-abbrev pub receipt_in : List ℕ → Receipt
-receipt_in bytes = record { group = pgn_in bytes; size = size_in bytes; count = slice_index bytes 3 }
+abbrev pub receipt_of : List ℕ → Receipt
+receipt_of bytes = record { group = pgn_in bytes; size = size_in bytes; count = slice_index bytes 3 }
 
 -- ---- frames
 
@@ -90,7 +90,7 @@ abbrev pub management_role : Ident → List ℕ → Role
 management_role i bytes =
     if announces bytes then announcement_role i bytes
     else if clears bytes then Clears (clearance_in bytes)
-    else if is_whole_control end_control bytes then Acknowledges (receipt_in bytes)
+    else if is_whole_control end_control bytes then Acknowledges (receipt_of bytes)
     else Nothing
 
 -- a packet of the number that is its first byte

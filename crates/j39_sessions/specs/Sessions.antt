@@ -4,8 +4,8 @@ use Rattle.std.specs.List.{list_all}
 use Rattle.j39_id.specs.declared.frame.Frame.{Frame}
 use Rattle.j39_id.specs.declared.ident.Ident.{Ident}
 use Rattle.j39_sessions.specs.SessionFrames.{role_of}
-use Rattle.j39_sessions.specs.declared.fault.Fault.{Fault}
-use Rattle.j39_sessions.specs.declared.fault.Fault.TheVariants.{Announcement, Grant, Packet, Acknowledged}
+use Rattle.j39_sessions.specs.declared.fault.SessionFault.{SessionFault}
+use Rattle.j39_sessions.specs.declared.fault.SessionFault.TheVariants.{Announcement, Grant, Packet, Acknowledged}
 use Rattle.j39_sessions.specs.declared.pair_sessions.Before.{Before}
 use Rattle.j39_sessions.specs.declared.pair_sessions.Before.TheVariants.{Unknown, Nothing as NoneBefore, Known}
 use Rattle.j39_sessions.specs.declared.pair_sessions.PairSessions.{PairSessions}
@@ -13,35 +13,35 @@ use Rattle.j39_sessions.specs.declared.role.Clearance.{Clearance}
 use Rattle.j39_sessions.specs.declared.role.Receipt.{Receipt}
 use Rattle.j39_sessions.specs.declared.role.Role.{Role}
 use Rattle.j39_sessions.specs.declared.role.Role.TheVariants.{Begins, Breaks, Clears, Acknowledges, Carries}
-use Rattle.j39_sessions.specs.declared.session.Session.{Session}
+use Rattle.j39_sessions.specs.declared.session.LoggedSession.{LoggedSession}
 
 -- ---- one session
 
 -- a CTS is right by a session of its group: it clears packets that the session has, and no more at once than the RTS lets it
-abbrev pub is_cleared : Clearance → Session → Bool
+abbrev pub is_cleared : Clearance → LoggedSession → Bool
 is_cleared c s = c.group == s.group && (nat_le 1 c.first && (nat_le c.first s.count && (nat_le c.count s.count && nat_le c.count s.limit)))
 
 -- each number up to the last packet's was sent
-abbrev pub has_come : Session → Bool
+abbrev pub has_come : LoggedSession → Bool
 has_come s = list_all (λ (sent : Bool). sent) (slice_range s.sent 1 (s.count + 1))
 
 -- an acknowledgement is right by a session of its group: its size, its packets, all of them sent
-abbrev pub is_acknowledged : Receipt → Session → Bool
+abbrev pub is_acknowledged : Receipt → LoggedSession → Bool
 is_acknowledged r s = r.group == s.group && (r.size == s.size && (r.count == s.count && has_come s))
 
 -- a CTS has cleared this number
-abbrev pub is_permitted : ℕ → Session → Bool
+abbrev pub is_permitted : ℕ → LoggedSession → Bool
 is_permitted number s = nat_le 1 number && nat_le number s.greatest
 
 -- the last packet that a CTS clears, of so many
 abbrev pub last_cleared : Clearance → ℕ → ℕ
 last_cleared c count = min (c.first + c.count - 1) count
 
-abbrev pub cleared : Clearance → Session → Session
-cleared c s = if nat_le 1 c.first then record s { greatest = max s.greatest (last_cleared c s.count) } else s
+abbrev pub with_cleared : Clearance → LoggedSession → LoggedSession
+with_cleared c s = if nat_le 1 c.first then record s { greatest = max s.greatest (last_cleared c s.count) } else s
 
-abbrev pub with_packet : ℕ → Session → Session
-with_packet number s = record s { sent = slice_set s.sent number true }
+abbrev pub with_number : ℕ → LoggedSession → LoggedSession
+with_number number s = record s { sent = slice_set s.sent number true }
 
 -- ---- the one before
 
@@ -64,17 +64,17 @@ stays c _ = false
 -- ---- those of two addresses
 
 -- behind the first RTS that is known
-abbrev pub first : Session → PairSessions
-first s = record { newest = s; before = Unknown; is_over = false }
+abbrev pub first_known : LoggedSession → PairSessions
+first_known s = record { newest = s; before = Unknown; is_over = false }
 
 -- behind one more
-abbrev pub begun : Session → PairSessions → PairSessions
-begun s p = record { newest = s; before = if p.is_over then NoneBefore else Known p.newest; is_over = false }
+abbrev pub with_next : LoggedSession → PairSessions → PairSessions
+with_next s p = record { newest = s; before = if p.is_over then NoneBefore else Known p.newest; is_over = false }
 
 -- behind a CTS of the newest one's group
 abbrev pub with_clearance : Clearance → PairSessions → PairSessions
 with_clearance c p = record p {
-  newest = cleared c p.newest;
+  newest = with_cleared c p.newest;
   before = if is_cleared c p.newest && not (stays c p.before) then NoneBefore else p.before;
 }
 
@@ -84,19 +84,19 @@ with_receipt r p =
     if is_acknowledged r p.newest || not (is_it_acknowledged r p.before) then record p { is_over = true }
     else record p { before = NoneBefore }
 
-abbrev pub behind : Role → PairSessions → PairSessions
-behind (Clears c) p = if c.group == p.newest.group then with_clearance c p else p
-behind (Acknowledges r) p = if r.group == p.newest.group then with_receipt r p else p
-behind (Carries number) p = record p { newest = with_packet number p.newest }
-behind _ p = p
+abbrev pub pair_with : Role → PairSessions → PairSessions
+pair_with (Clears c) p = if c.group == p.newest.group then with_clearance c p else p
+pair_with (Acknowledges r) p = if r.group == p.newest.group then with_receipt r p else p
+pair_with (Carries number) p = record p { newest = with_number number p.newest }
+pair_with _ p = p
 
 abbrev pub behind_known : Role → Option PairSessions → Option PairSessions
 behind_known role None = None
-behind_known role (Some p) = Some (behind role p)
+behind_known role (Some p) = Some (pair_with role p)
 
-abbrev pub with_session : Session → Option PairSessions → PairSessions
-with_session s None = first s
-with_session s (Some p) = begun s p
+abbrev pub with_session : LoggedSession → Option PairSessions → PairSessions
+with_session s None = first_known s
+with_session s (Some p) = with_next s p
 
 -- behind a frame
 abbrev pub pair_behind : Role → Option PairSessions → Option PairSessions
@@ -112,16 +112,16 @@ is_wrong_clearance c p = c.group == p.newest.group && not (is_cleared c p.newest
 abbrev pub is_wrong_receipt : Receipt → PairSessions → Bool
 is_wrong_receipt r p = r.group == p.newest.group && not (is_acknowledged r p.newest || is_it_acknowledged r p.before)
 
-abbrev pub fault_if : Bool → Fault → Option Fault
+abbrev pub fault_if : Bool → SessionFault → Option SessionFault
 fault_if is fault = if is then Some fault else None
 
-abbrev pub fault_in : Role → PairSessions → Option Fault
+abbrev pub fault_in : Role → PairSessions → Option SessionFault
 fault_in (Clears c) p = fault_if (is_wrong_clearance c p) Grant
 fault_in (Acknowledges r) p = fault_if (is_wrong_receipt r p) Acknowledged
 fault_in (Carries number) p = fault_if (not (is_permitted number p.newest)) Packet
 fault_in _ p = None
 
-abbrev pub fault_of : Role → Option PairSessions → Option Fault
+abbrev pub fault_of : Role → Option PairSessions → Option SessionFault
 fault_of Breaks known = Some Announcement
 fault_of role None = None
 fault_of role (Some p) = fault_in role p
@@ -156,5 +156,5 @@ unfoldable pub sessions_behind : Frame → AllSessions → AllSessions
 sessions_behind f s from to = if is_of_session f.ident (role_of f) from to then pair_behind (role_of f) (s from to) else s from to
 
 -- what a frame does that it mustn't, by the sessions up to it
-unfoldable pub fault_at : Frame → AllSessions → Option Fault
+unfoldable pub fault_at : Frame → AllSessions → Option SessionFault
 fault_at f s = fault_of (role_of f) (s (sender_by f.ident (role_of f)) (receiver_by f.ident (role_of f)))

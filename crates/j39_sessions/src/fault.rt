@@ -2,7 +2,7 @@
 
 /// What a frame does that none does by SAE J1939-21.
 #[derive(Clone, Copy, Debug, PartialEq, Eq)]
-pub enum Fault {
+pub enum SessionFault {
     /// It announces a message, and isn't right.
     Announcement,
     /// It clears packets to be sent that its session doesn't have, or more at once than its RTS lets it.

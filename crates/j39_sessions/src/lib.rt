@@ -10,7 +10,7 @@ mod role;
 mod session;
 mod sessions;
 
-pub use fault::Fault;
+pub use fault::SessionFault;
 pub use laws::{
     right_answers_are_not_told, uncleared_packets_are_told, wrong_announcements_are_told,
     wrong_answers_are_told,
@@ -18,5 +18,5 @@ pub use laws::{
 pub use opening::announces_rightly;
 pub use pair_sessions::{Before, PairSessions};
 pub use role::{Clearance, Receipt, Role};
-pub use session::Session;
+pub use session::LoggedSession;
 pub use sessions::Sessions;

@@ -1,12 +1,12 @@
 //! Announcements: which of them are right, and the sessions that they begin.
 ghost use Rattle.std.specs.Prelude.{◌≡◌, length, true};
 ghost use Rattle.j39_sessions.specs.SessionFrames.{announcement_role, announces, announces_rightly, begins_with};
-ghost use Rattle.j39_sessions.specs.SessionFrames.{gives_size, goes_rightly, has_size, is_right};
-ghost use Rattle.j39_sessions.specs.SessionFrames.{limit_in, opened};
+ghost use Rattle.j39_sessions.specs.SessionFrames.{states_size, goes_rightly, has_size, is_right};
+ghost use Rattle.j39_sessions.specs.SessionFrames.{limit_in, session_opened};
 ghost use Rattle.j39_tp.specs.Packets.{pgn_in};
 
 use crate::role::Role;
-use crate::session::{NUMBERS, Session};
+use crate::session::{LoggedSession, NUMBERS};
 use j39_id::addresses::{GLOBAL_ADDRESS, NULL_ADDRESS};
 use j39_id::services::CONNECTION_MANAGEMENT;
 use j39_id::{Frame, Ident, number_of_bytes};
@@ -44,8 +44,8 @@ fn has_size(bytes: &[u8]) -> bool
     }
 }
 
-fn gives_size(bytes: &[u8]) -> bool
-    ensures { result ≡ gives_size bytes.now }
+fn states_size(bytes: &[u8]) -> bool
+    ensures { result ≡ states_size bytes.now }
 {
     bytes.len() == EIGHT && has_size(bytes)
 }
@@ -65,7 +65,7 @@ fn is_right(ident: Ident, bytes: &[u8]) -> bool
     ensures same { result ≡ is_right ident bytes.now }
     ensures eight { result ≡ true → length bytes.now ≡ 8 }
 {
-    gives_size(bytes) && goes_rightly(ident, bytes)
+    states_size(bytes) && goes_rightly(ident, bytes)
 }
 
 /// Whether a frame announces nothing, or as an announcement may: with eight bytes, a size of 9 to 1785 and the packets
@@ -94,11 +94,11 @@ fn limit_in(fifth: u8) -> u8
 }
 
 // The session that an RTS begins.
-fn opened(bytes: &[u8]) -> Session
+fn session_opened(bytes: &[u8]) -> LoggedSession
     requires { length bytes.now ≡ 8 }
-    ensures { result ≡ opened bytes.now }
+    ensures { result ≡ session_opened bytes.now }
 {
-    Session {
+    LoggedSession {
         group: group_in(bytes),
         size: u16::from_le_bytes([bytes[1], bytes[2]]),
         count: bytes[3],
@@ -115,7 +115,7 @@ pub(crate) fn announcement_role(ident: Ident, bytes: &[u8]) -> Role
     if !is_right(ident, bytes) {
         Role::Breaks
     } else if begins_with(bytes, RTS) && ident.sa < NULL_ADDRESS {
-        Role::Begins(opened(bytes))
+        Role::Begins(session_opened(bytes))
     } else {
         Role::Nothing
     }

@@ -1,12 +1,12 @@
 //! The sessions from one address to another.
 ghost use Rattle.std.specs.Prelude.{◌≡◌};
-ghost use Rattle.j39_sessions.specs.Sessions.{begun, behind, fault_in, first, is_it_acknowledged, is_it_cleared};
+ghost use Rattle.j39_sessions.specs.Sessions.{with_next, pair_with, fault_in, first_known, is_it_acknowledged, is_it_cleared};
 ghost use Rattle.j39_sessions.specs.Sessions.{is_wrong_clearance, is_wrong_receipt, stays, with_clearance};
 ghost use Rattle.j39_sessions.specs.Sessions.{with_receipt};
 
-use crate::fault::Fault;
+use crate::fault::SessionFault;
 use crate::role::{Clearance, Receipt, Role};
-use crate::session::Session;
+use crate::session::LoggedSession;
 
 /// The session before the newest one.
 #[derive(Clone, Copy)]
@@ -16,7 +16,7 @@ pub enum Before {
     /// None is.
     Nothing,
     /// This one.
-    Known(Session),
+    Known(LoggedSession),
 }
 
 impl Before {
@@ -56,15 +56,15 @@ impl Before {
 /// The sessions from one address to another: the newest, the one before it, and whether none is before the next one.
 #[derive(Clone, Copy)]
 pub struct PairSessions {
-    pub newest: Session,
+    pub newest: LoggedSession,
     pub before: Before,
     pub is_over: bool,
 }
 
 impl PairSessions {
     /// Behind the first RTS that is known.
-    pub(crate) fn first(session: Session) -> Self
-        ensures { result ≡ first session }
+    pub(crate) fn first(session: LoggedSession) -> Self
+        ensures { result ≡ first_known session }
     {
         PairSessions {
             newest: session,
@@ -74,8 +74,8 @@ impl PairSessions {
     }
 
     /// Behind one more.
-    pub(crate) fn begin(&mut self, session: Session)
-        ensures { self.new ≡ begun session self.old }
+    pub(crate) fn begin(&mut self, session: LoggedSession)
+        ensures { self.new ≡ with_next session self.old }
     {
         self.before = if self.is_over {
             Before::Nothing
@@ -103,16 +103,20 @@ impl PairSessions {
     }
 
     /// What a frame does that it mustn't.
-    pub(crate) fn fault_in(&self, role: &Role) -> Option<Fault>
+    pub(crate) fn fault_in(&self, role: &Role) -> Option<SessionFault>
         ensures { result ≡ fault_in role.now self.now }
     {
         match role {
-            Role::Clears(clearance) => self.is_wrong_clearance(*clearance).then_some(Fault::Grant),
+            Role::Clears(clearance) => self
+                .is_wrong_clearance(*clearance)
+                .then_some(SessionFault::Grant),
             Role::Acknowledges(receipt) => {
                 self.is_wrong_receipt(*receipt)
-                    .then_some(Fault::Acknowledged)
+                    .then_some(SessionFault::Acknowledged)
             }
-            Role::Carries(number) => (!self.newest.is_permitted(*number)).then_some(Fault::Packet),
+            Role::Carries(number) => (!self.newest.is_permitted(*number)).then_some(
+                SessionFault::Packet,
+            ),
             _ => None,
         }
     }
@@ -140,7 +144,7 @@ impl PairSessions {
 
     /// Behind a frame that begins no session.
     pub(crate) fn take(&mut self, role: &Role)
-        ensures { self.new ≡ behind role.now self.old }
+        ensures { self.new ≡ pair_with role.now self.old }
     {
         match role {
             Role::Clears(clearance) => {

@@ -1,7 +1,7 @@
 //! What a frame is to the sessions of two addresses, by its group and its bytes.
 ghost use Rattle.std.specs.Prelude.{◌≡◌, length, true};
 ghost use Rattle.j39_sessions.specs.SessionFrames.{clearance_in, clears, data_role, is_whole_control};
-ghost use Rattle.j39_sessions.specs.SessionFrames.{management_role, receipt_in, role_of};
+ghost use Rattle.j39_sessions.specs.SessionFrames.{management_role, receipt_of, role_of};
 
 use crate::opening::{announcement_role, announces, begins_with, group_in};
 use crate::role::{Clearance, Receipt, Role};
@@ -42,9 +42,9 @@ fn clearance_in(bytes: &[u8]) -> Clearance
     }
 }
 
-fn receipt_in(bytes: &[u8]) -> Receipt
+fn receipt_of(bytes: &[u8]) -> Receipt
     requires { length bytes.now ≡ 8 }
-    ensures { result ≡ receipt_in bytes.now }
+    ensures { result ≡ receipt_of bytes.now }
 {
     Receipt {
         group: group_in(bytes),
@@ -62,7 +62,7 @@ fn management_role(ident: Ident, bytes: &[u8]) -> Role
     } else if clears(bytes) {
         Role::Clears(clearance_in(bytes))
     } else if is_whole_control(bytes, END_ACK) {
-        Role::Acknowledges(receipt_in(bytes))
+        Role::Acknowledges(receipt_of(bytes))
     } else {
         Role::Nothing
     }

@@ -1,6 +1,6 @@
 //! What a frame is to the sessions of two addresses.
 
-use crate::session::Session;
+use crate::session::LoggedSession;
 
 /// Of a CTS: how many packets it clears, at least one, from which on, and the group of the message.
 #[derive(Clone, Copy)]
@@ -22,7 +22,7 @@ pub struct Receipt {
 #[derive(Clone, Copy)]
 pub enum Role {
     /// It begins one: an RTS that is right.
-    Begins(Session),
+    Begins(LoggedSession),
     /// It announces a message, and isn't right.
     Breaks,
     /// Its source has an RTS, and lets packets come.

@@ -1,7 +1,7 @@
 //! A message to one address, from its RTS on.
 ghost use Rattle.std.specs.Prelude.{◌≡◌};
-ghost use Rattle.j39_sessions.specs.Sessions.{cleared, has_come, is_acknowledged, is_cleared, is_permitted};
-ghost use Rattle.j39_sessions.specs.Sessions.{with_packet};
+ghost use Rattle.j39_sessions.specs.Sessions.{with_cleared, has_come, is_acknowledged, is_cleared, is_permitted};
+ghost use Rattle.j39_sessions.specs.Sessions.{with_number};
 
 use crate::role::{Clearance, Receipt};
 
@@ -11,7 +11,7 @@ pub(crate) const NUMBERS: usize = 256;
 /// A message to one address, from its RTS on: its group, its bytes and packets, the most packets that a CTS may clear,
 /// the greatest number that a CTS cleared, and of each number whether a packet with it was sent.
 #[derive(Clone, Copy)]
-pub struct Session {
+pub struct LoggedSession {
     pub group: u32,
     pub size: u16,
     pub count: u8,
@@ -20,7 +20,7 @@ pub struct Session {
     pub sent: [bool; NUMBERS],
 }
 
-impl Session {
+impl LoggedSession {
     /// Whether a CTS is right by the session.
     pub(crate) fn is_cleared(&self, clearance: Clearance) -> bool
         ensures { result ≡ is_cleared clearance self.now }
@@ -56,7 +56,7 @@ impl Session {
 
     /// What a CTS of its group clears: up to the last packet at most.
     pub(crate) fn clear(&mut self, clearance: Clearance)
-        ensures { self.new ≡ cleared clearance self.old }
+        ensures { self.new ≡ with_cleared clearance self.old }
     {
         if clearance.first >= 1 {
             let behind = usize::from(clearance.first) + usize::from(clearance.count);
@@ -67,7 +67,7 @@ impl Session {
 
     /// A packet with this number was sent.
     pub(crate) fn send(&mut self, number: u8)
-        ensures { self.new ≡ with_packet number self.old }
+        ensures { self.new ≡ with_number number self.old }
     {
         self.sent[usize::from(number)] = true;
     }

@@ -1,15 +1,15 @@
 //! The sessions of all pairs of addresses.
 ghost use Rattle.std.specs.Prelude.{◌≡◌, ◌≢◌, ◌<◌, ℕ, Some, None, OnOk, IfOk};
-ghost use Rattle.j39_sessions.specs.Recalling.{Recalls, kept_at, key_of_pair};
+ghost use Rattle.j39_sessions.specs.Recalling.{RecallsSessions, kept_at, key_of_pair};
 ghost use Rattle.j39_sessions.specs.Sessions.{AllSessions, behind_known, fault_at, fault_of, goes_back, no_sessions};
 ghost use Rattle.j39_sessions.specs.Sessions.{pair_behind};
 ghost use Rattle.j39_sessions.specs.Sessions.{receiver_by, sender_by, sessions_behind};
 
-use crate::fault::Fault;
+use crate::fault::SessionFault;
 use crate::pair_sessions::PairSessions;
 use crate::reading::role_of;
 use crate::role::Role;
-use crate::session::Session;
+use crate::session::LoggedSession;
 use j39_id::{Frame, Ident};
 use std::alloc::{AllocError, Global};
 use std::collections::BTreeMap;
@@ -47,9 +47,9 @@ fn key_of(ident: Ident, role: &Role) -> u32
 
 impl Sessions {
     /// None yet.
-    #[tactic(auto, unfolding(crate::specs::Recalling::Recalls))]
+    #[tactic(auto, unfolding(crate::specs::Recalling::RecallsSessions))]
     pub fn new(alloc: Global) -> Self
-        ensures { Recalls result no_sessions }
+        ensures { RecallsSessions result no_sessions }
     {
         Sessions {
             kept: BTreeMap::new(alloc),
@@ -57,15 +57,15 @@ impl Sessions {
     }
 
     /// Forgets them all: what comes may be of sessions that the log doesn't show.
-    #[tactic(auto, unfolding(crate::specs::Recalling::Recalls))]
+    #[tactic(auto, unfolding(crate::specs::Recalling::RecallsSessions))]
     pub fn forget(&mut self)
-        ensures { Recalls self.new no_sessions }
+        ensures { RecallsSessions self.new no_sessions }
     {
         self.kept.clear();
     }
 
     // A pair's session begins.
-    fn begin(&mut self, key: u32, session: Session) -> Result<(), AllocError>
+    fn begin(&mut self, key: u32, session: LoggedSession) -> Result<(), AllocError>
         ensures here { OnOk result (kept_at self.new key ≡ pair_behind (Role.Begins session) (kept_at self.old key)) }
         ensures others { OnOk result ((other : ℕ) → other ≢ key → kept_at self.new other ≡ kept_at self.old other) }
     {
@@ -88,11 +88,11 @@ impl Sessions {
     }
 
     // What a frame of a pair does that it mustn't.
-    fn fault_of(&self, key: u32, role: &Role) -> Option<Fault>
+    fn fault_of(&self, key: u32, role: &Role) -> Option<SessionFault>
         ensures { result ≡ fault_of role.now (kept_at self.now key) }
     {
         if matches!(role, Role::Breaks) {
-            return Some(Fault::Announcement);
+            return Some(SessionFault::Announcement);
         }
         match self.kept.get(&key) {
             Some(pair) => pair.fault_in(role),
@@ -129,10 +129,10 @@ impl Sessions {
     }
 
     /// Takes a frame, and answers what it does that it mustn't, by the sessions up to it.
-    pub fn take(&mut self, frame: &Frame) -> Result<Option<Fault>, AllocError>
-        ensures fault { IfOk result (λ fault. (s : AllSessions) → Recalls self.old s → fault ≡ fault_at frame.now s) }
-        ensures sessions { OnOk result ((s : AllSessions) → Recalls self.old s
-            → Recalls self.new (sessions_behind frame.now s)) }
+    pub fn take(&mut self, frame: &Frame) -> Result<Option<SessionFault>, AllocError>
+        ensures fault { IfOk result (λ fault. (s : AllSessions) → RecallsSessions self.old s → fault ≡ fault_at frame.now s) }
+        ensures sessions { OnOk result ((s : AllSessions) → RecallsSessions self.old s
+            → RecallsSessions self.new (sessions_behind frame.now s)) }
     {
         let role = role_of(frame);
         let key = key_of(frame.ident, &role);
