@@ -3,7 +3,7 @@ use Rattle.std.proofs.Common.{◌≡◌, ◌≢◌, ◌<◌, ◌==◌, ◌&&◌,
 use Rattle.std.proofs.lemmas.Bool.{and_from, false≢true}
 use Rattle.j39_id.specs.declared.frame.Frame.{Frame}
 use Rattle.j39_id.specs.declared.ident.Ident.{Ident}
-use Rattle.j39_sessions.specs.Recalling.{RecallsSessions, kept_at, key_of_pair}
+use Rattle.j39_sessions.specs.Recalling.{KeepsSessions, kept_at, key_of_pair}
 use Rattle.j39_sessions.specs.SessionFrames.{role_of}
 use Rattle.j39_sessions.specs.Sessions.{AllSessions, fault_at, fault_of, goes_back, is_of_session, pair_behind, receiver_by, sender_by, sessions_behind}
 use Rattle.j39_sessions.specs.declared.role.Role.{Role}
@@ -65,8 +65,8 @@ pub recalled_behind : (old new : Sessions) (f : Frame) (role : Role) (key : ℕ)
     → key ≡ key_of_pair (sender_by f.ident role) (receiver_by f.ident role)
     → kept_at new key ≡ pair_behind role (kept_at old key)
     → ((other : ℕ) → other ≢ key → kept_at new other ≡ kept_at old other)
-    → (s : AllSessions) → RecallsSessions old s → RecallsSessions new (sessions_behind f s)
-unfolding RecallsSessions sessions_behind
+    → (s : AllSessions) → KeepsSessions old s → KeepsSessions new (sessions_behind f s)
+unfolding KeepsSessions sessions_behind
 recalled_behind old new f role key fa fp is keyed here others s recalls = λ from to lf lt.
     subst (λ (r : Role). kept_at new (key_of_pair from to) ≡ cond (is_of_session f.ident r from to) (pair_behind r (s from to)) (s from to)) is
     (at_pair old new f.ident role s key from to (receiver_fits f.ident role fa fp) lt keyed here others (recalls from to lf lt)
@@ -75,8 +75,8 @@ recalled_behind old new f role key fa fp is keyed here others s recalls = λ fro
 pub fault_recalled : (old : Sessions) (f : Frame) (role : Role) (key : ℕ) → f.ident.sa < 256 → f.ident.ps < 256
     → role ≡ role_of f
     → key ≡ key_of_pair (sender_by f.ident role) (receiver_by f.ident role)
-    → (s : AllSessions) → RecallsSessions old s → fault_of role (kept_at old key) ≡ fault_at f s
-unfolding RecallsSessions fault_at
+    → (s : AllSessions) → KeepsSessions old s → fault_of role (kept_at old key) ≡ fault_at f s
+unfolding KeepsSessions fault_at
 fault_recalled old f role key fa fp is keyed s recalls =
     subst (λ (r : Role). fault_of role (kept_at old key) ≡ fault_of r (s (sender_by f.ident r) (receiver_by f.ident r))) is
     (ap (fault_of role) (ap (kept_at old) keyed

@@ -13,5 +13,5 @@ abbrev pub kept_at : Sessions → ℕ → Option PairSessions
 kept_at sessions key = get nat_cmp sessions.kept key
 
 -- of each two addresses just this is kept
-unfoldable pub RecallsSessions : Sessions → AllSessions → Type 0
-RecallsSessions sessions s = (from to : ℕ) → from < 256 → to < 256 → kept_at sessions (key_of_pair from to) ≡ s from to
+unfoldable pub KeepsSessions : Sessions → AllSessions → Type 0
+KeepsSessions sessions s = (from to : ℕ) → from < 256 → to < 256 → kept_at sessions (key_of_pair from to) ≡ s from to

@@ -68,8 +68,8 @@ abbrev pub first_known : LoggedSession → PairSessions
 first_known s = record { newest = s; before = Unknown; is_over = false }
 
 -- behind one more
-abbrev pub with_next : LoggedSession → PairSessions → PairSessions
-with_next s p = record { newest = s; before = if p.is_over then NoneBefore else Known p.newest; is_over = false }
+abbrev pub with_later : LoggedSession → PairSessions → PairSessions
+with_later s p = record { newest = s; before = if p.is_over then NoneBefore else Known p.newest; is_over = false }
 
 -- behind a CTS of the newest one's group
 abbrev pub with_clearance : Clearance → PairSessions → PairSessions
@@ -96,7 +96,7 @@ behind_known role (Some p) = Some (pair_with role p)
 
 abbrev pub with_session : LoggedSession → Option PairSessions → PairSessions
 with_session s None = first_known s
-with_session s (Some p) = with_next s p
+with_session s (Some p) = with_later s p
 
 -- behind a frame
 abbrev pub pair_behind : Role → Option PairSessions → Option PairSessions

@@ -1,6 +1,6 @@
 //! The sessions from one address to another.
 ghost use Rattle.std.specs.Prelude.{◌≡◌};
-ghost use Rattle.j39_sessions.specs.Sessions.{with_next, pair_with, fault_in, first_known, is_it_acknowledged, is_it_cleared};
+ghost use Rattle.j39_sessions.specs.Sessions.{with_later, pair_with, fault_in, first_known, is_it_acknowledged, is_it_cleared};
 ghost use Rattle.j39_sessions.specs.Sessions.{is_wrong_clearance, is_wrong_receipt, stays, with_clearance};
 ghost use Rattle.j39_sessions.specs.Sessions.{with_receipt};
 
@@ -75,7 +75,7 @@ impl PairSessions {
 
     /// Behind one more.
     pub(crate) fn begin(&mut self, session: LoggedSession)
-        ensures { self.new ≡ with_next session self.old }
+        ensures { self.new ≡ with_later session self.old }
     {
         self.before = if self.is_over {
             Before::Nothing

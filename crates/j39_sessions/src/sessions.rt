@@ -1,6 +1,6 @@
 //! The sessions of all pairs of addresses.
 ghost use Rattle.std.specs.Prelude.{◌≡◌, ◌≢◌, ◌<◌, ℕ, Some, None, OnOk, IfOk};
-ghost use Rattle.j39_sessions.specs.Recalling.{RecallsSessions, kept_at, key_of_pair};
+ghost use Rattle.j39_sessions.specs.Recalling.{KeepsSessions, kept_at, key_of_pair};
 ghost use Rattle.j39_sessions.specs.Sessions.{AllSessions, behind_known, fault_at, fault_of, goes_back, no_sessions};
 ghost use Rattle.j39_sessions.specs.Sessions.{pair_behind};
 ghost use Rattle.j39_sessions.specs.Sessions.{receiver_by, sender_by, sessions_behind};
@@ -47,9 +47,9 @@ fn key_of(ident: Ident, role: &Role) -> u32
 
 impl Sessions {
     /// None yet.
-    #[tactic(auto, unfolding(crate::specs::Recalling::RecallsSessions))]
+    #[tactic(auto, unfolding(crate::specs::Recalling::KeepsSessions))]
     pub fn new(alloc: Global) -> Self
-        ensures { RecallsSessions result no_sessions }
+        ensures { KeepsSessions result no_sessions }
     {
         Sessions {
             kept: BTreeMap::new(alloc),
@@ -57,9 +57,9 @@ impl Sessions {
     }
 
     /// Forgets them all: what comes may be of sessions that the log doesn't show.
-    #[tactic(auto, unfolding(crate::specs::Recalling::RecallsSessions))]
+    #[tactic(auto, unfolding(crate::specs::Recalling::KeepsSessions))]
     pub fn forget(&mut self)
-        ensures { RecallsSessions self.new no_sessions }
+        ensures { KeepsSessions self.new no_sessions }
     {
         self.kept.clear();
     }
@@ -130,9 +130,9 @@ impl Sessions {
 
     /// Takes a frame, and answers what it does that it mustn't, by the sessions up to it.
     pub fn take(&mut self, frame: &Frame) -> Result<Option<SessionFault>, AllocError>
-        ensures fault { IfOk result (λ fault. (s : AllSessions) → RecallsSessions self.old s → fault ≡ fault_at frame.now s) }
-        ensures sessions { OnOk result ((s : AllSessions) → RecallsSessions self.old s
-            → RecallsSessions self.new (sessions_behind frame.now s)) }
+        ensures fault { IfOk result (λ fault. (s : AllSessions) → KeepsSessions self.old s → fault ≡ fault_at frame.now s) }
+        ensures sessions { OnOk result ((s : AllSessions) → KeepsSessions self.old s
+            → KeepsSessions self.new (sessions_behind frame.now s)) }
     {
         let role = role_of(frame);
         let key = key_of(frame.ident, &role);

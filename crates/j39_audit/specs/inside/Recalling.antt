@@ -3,7 +3,7 @@ use Rattle.std.specs.Prelude.{◌≡◌, ℕ, ◌+◌, ◌*◌, ◌++◌, ◌^�
 use Rattle.std.specs.HashMap.{get}
 use Rattle.std.specs.Option.{option_copied}
 use Rattle.j39_network.specs.declared.plan.Plan.{Plan}
-use Rattle.j39_sessions.specs.Recalling.{RecallsSessions}
+use Rattle.j39_sessions.specs.Recalling.{KeepsSessions}
 use Rattle.j39_audit.specs.Asking.{Asking}
 use Rattle.j39_audit.specs.BegunBroadcasts.{BegunBroadcasts}
 use Rattle.j39_audit.specs.Claiming.{HeardClaims, Knowledge, knowledge}
@@ -134,7 +134,7 @@ pub record RecallsBroadcasts (s : Settings) (kept : KeptBroadcasts) (b : BegunBr
 
 -- the sessions and what was found of them are kept
 pub record RecallsSessions (kept : SessionMarks) (m : ToldSessions) : Type 0 where
-  pub sessions : RecallsSessions kept.sessions m.sessions
+  pub sessions : KeepsSessions kept.sessions m.sessions
   pub counted : AreCounted kept.told m.told
 
 -- ---- claims
