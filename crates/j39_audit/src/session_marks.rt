@@ -65,6 +65,7 @@ impl SessionMarks {
     }
 
     /// Comes to a frame just before which the log breaks off, or a gap ends.
+    #[tactic(auto, unfolding(crate::specs::ToldSessions::sessions_before))]
     pub fn come_to(&mut self, broken: bool, gap: bool)
         ensures { (m : ToldSessions) → RecallsSessions self.old m
             → RecallsSessions self.new (sessions_before broken gap m) }
@@ -89,6 +90,7 @@ impl SessionMarks {
     }
 
     /// Takes a frame of a whole log.
+    #[tactic(auto, unfolding(crate::specs::ToldSessions::sessions_with_frame))]
     pub fn take(
         &mut self,
         basis: &Basis<'_>,
