@@ -3,7 +3,7 @@ use Rattle.std.proofs.Common.{◌≡◌, ◌≢◌, ◌<◌, ◌==◌, ◌&&◌,
 use Rattle.std.proofs.lemmas.Bool.{and_from, false≢true}
 use Rattle.j39_id.specs.declared.frame.Frame.{Frame}
 use Rattle.j39_id.specs.declared.ident.Ident.{Ident}
-use Rattle.j39_sessions.specs.Recalling.{KeepsSessions, kept_at, key_of_pair}
+use Rattle.j39_sessions.specs.KeptSessions.{KeepsSessions, kept_at, key_of_pair}
 use Rattle.j39_sessions.specs.SessionFrames.{role_of}
 use Rattle.j39_sessions.specs.Sessions.{AllSessions, fault_at, fault_of, goes_back, is_of_session, pair_behind, receiver_by, sender_by, sessions_behind}
 use Rattle.j39_sessions.specs.declared.role.Role.{Role}

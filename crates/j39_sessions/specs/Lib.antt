@@ -1,4 +1,4 @@
-pub mod Recalling
+pub mod KeptSessions
 pub mod SessionFrames
 pub mod SessionLaws
 pub mod Sessions

@@ -1,6 +1,6 @@
 //! The sessions of all pairs of addresses.
 ghost use Rattle.std.specs.Prelude.{◌≡◌, ◌≢◌, ◌<◌, ℕ, Some, None, OnOk, IfOk};
-ghost use Rattle.j39_sessions.specs.Recalling.{KeepsSessions, kept_at, key_of_pair};
+ghost use Rattle.j39_sessions.specs.KeptSessions.{KeepsSessions, kept_at, key_of_pair};
 ghost use Rattle.j39_sessions.specs.Sessions.{AllSessions, behind_known, fault_at, fault_of, goes_back, no_sessions};
 ghost use Rattle.j39_sessions.specs.Sessions.{pair_behind};
 ghost use Rattle.j39_sessions.specs.Sessions.{receiver_by, sender_by, sessions_behind};

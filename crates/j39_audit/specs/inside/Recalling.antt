@@ -3,7 +3,7 @@ use Rattle.std.specs.Prelude.{◌≡◌, ℕ, ◌+◌, ◌*◌, ◌++◌, ◌^�
 use Rattle.std.specs.HashMap.{get}
 use Rattle.std.specs.Option.{option_copied}
 use Rattle.j39_network.specs.declared.plan.Plan.{Plan}
-use Rattle.j39_sessions.specs.Recalling.{KeepsSessions}
+use Rattle.j39_sessions.specs.KeptSessions.{KeepsSessions}
 use Rattle.j39_audit.specs.Asking.{Asking}
 use Rattle.j39_audit.specs.BegunBroadcasts.{BegunBroadcasts}
 use Rattle.j39_audit.specs.Claiming.{HeardClaims, Knowledge, knowledge}
