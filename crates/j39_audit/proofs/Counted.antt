@@ -7,7 +7,7 @@ use Rattle.std.proofs.lemmas.List.{append-nil, length_push}
 use Rattle.std.specs.List.{filter}
 use Rattle.std.proofs.lemmas.Bool.{ne_eqb}
 use Rattle.std.specs.HashMap.{get}
-use Rattle.j39_audit.specs.Counting.{Greatest, Key, Noted, greater, greatest_behind, is_same_key, key_of, most_times, never, reported_at, reported_by}
+use Rattle.j39_audit.specs.Counting.{Greatest, Key, Noted, greater, greatest_behind, is_same_key, key_of, most_times, never, reported_at, occurrences_with}
 use Rattle.j39_audit.specs.Counting.{reported_more, occurrences_of}
 use Rattle.j39_audit.specs.declared.tally.MarkTally.{MarkTally}
 use Rattle.j39_audit.specs.inside.Recalling.{AreCounted}
@@ -27,8 +27,8 @@ reported_push (m ∷ l) n =
     let more : min (length (l ++ n ∷ []) + 1) most_times ≡ min (min (length l + 1) most_times + 1) most_times = omega (arith, push) in
     let apart : min (length l + 1) most_times ≢ 0 = omega arith in
     let some : (min (length l + 1) most_times == 0) ≡ false = ne_eqb _ _ apart in
-    rw some (ap (λ (k : ℕ). reported_by k m.line m.detail (greatest_behind begun (l ++ n ∷ []))) more
-    ∙ ap (λ (g : Greatest). reported_by (min (min (length l + 1) most_times + 1) most_times) m.line m.detail g) (greatest_push begun l n))
+    rw some (ap (λ (k : ℕ). occurrences_with k m.line m.detail (greatest_behind begun (l ++ n ∷ []))) more
+    ∙ ap (λ (g : Greatest). occurrences_with (min (min (length l + 1) most_times + 1) most_times) m.line m.detail g) (greatest_push begun l n))
 
 -- where a table stays, what is counted does
 pub counted_on : (a b : MarkTally) (noted : List Noted) → b.found ≡ a.found → AreCounted a noted → AreCounted b noted

@@ -9,7 +9,7 @@ use Rattle.j39_audit.specs.Claiming.{Heard, HeardClaims, has_claimed, knowledge,
 use Rattle.j39_audit.specs.Settings.{Settings}
 use Rattle.j39_audit.specs.Requests.{GroupRequests}
 use Rattle.j39_audit.specs.declared.known.Known.{Known}
-use Rattle.j39_audit.specs.declared.requests.Requests.{Requests}
+use Rattle.j39_audit.specs.declared.requests.HeardRequests.{HeardRequests}
 use Rattle.j39_audit.specs.inside.Recalling.{KnowsClaims, known_by, RecallsRequests}
 
 and_false : (b : Bool) → (b && false) ≡ false
@@ -28,8 +28,8 @@ known_knowledge s known claims knows = λ i. record {
 }
 
 -- where what was asked for stays, it is recalled
-pub still_requested : (old new : Requests) (r : GroupRequests) → new ≡ old → RecallsRequests old r → RecallsRequests new r
-still_requested old new r same recalls = subst (λ (k : Requests). RecallsRequests k r) (sym same) recalls
+pub still_requested : (old new : HeardRequests) (r : GroupRequests) → new ≡ old → RecallsRequests old r → RecallsRequests new r
+still_requested old new r same recalls = subst (λ (k : HeardRequests). RecallsRequests k r) (sym same) recalls
 
 -- ---- a break
 

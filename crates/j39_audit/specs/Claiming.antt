@@ -8,7 +8,7 @@ use Rattle.j39_id.specs.declared.frame.Frame.{Frame}
 use Rattle.j39_network.specs.declared.plan.Plan.{Plan}
 use Rattle.j39_network.specs.declared.plan.unit_plan.UnitPlan.{UnitPlan}
 use Rattle.j39_audit.specs.Below.{any_below, first_below}
-use Rattle.j39_audit.specs.Requests.{GroupRequests, is_asked_for, nothing_requested, requests_before, requests_behind}
+use Rattle.j39_audit.specs.Requests.{GroupRequests, is_requested, nothing_requested, requests_before, requests_behind}
 use Rattle.j39_audit.specs.Settings.{Settings, moves, units_planned}
 use Rattle.j39_audit.specs.declared.senders.SureSender.{SureSender}
 use Rattle.j39_audit.specs.declared.senders.SureSender.TheVariants.{Unit as OfUnit, Nobody, Unknown}
@@ -131,7 +131,7 @@ is_strange s k a =
 
 -- a message of this number, from this source: by any requests, or by those that are none of the plan's
 abbrev pub was_asked_for : Settings → Knowledge → Bool → ℕ → ℕ → Bool
-was_asked_for s k besides number source = is_asked_for s k.time k.requests besides number source
+was_asked_for s k besides number source = is_requested s k.time k.requests besides number source
 
 -- ---- the sender
 

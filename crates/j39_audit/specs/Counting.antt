@@ -73,18 +73,18 @@ greatest_behind so_far [] = so_far
 greatest_behind so_far (n ∷ rest) = greatest_behind (greater so_far n.line n.detail) rest
 
 -- how often something was found, the first line and what belongs to it there, and where the greatest such number is
-abbrev pub reported_by : ℕ → ℕ → ℕ → Greatest → Occurrences
-reported_by times first detail worst = record { times = times; first = first; detail = detail; worst = worst.0; worst_at = worst.1 }
+abbrev pub occurrences_with : ℕ → ℕ → ℕ → Greatest → Occurrences
+occurrences_with times first detail worst = record { times = times; first = first; detail = detail; worst = worst.0; worst_at = worst.1 }
 
 abbrev pub occurrences_of : List Noted → Occurrences
 occurrences_of [] = never
-occurrences_of (n ∷ rest) = reported_by (min (length rest + 1) most_times) n.line n.detail (greatest_behind (n.detail, n.line) rest)
+occurrences_of (n ∷ rest) = occurrences_with (min (length rest + 1) most_times) n.line n.detail (greatest_behind (n.detail, n.line) rest)
 
 -- with one line more
 abbrev pub reported_more : Occurrences → ℕ → ℕ → Occurrences
 reported_more t line detail =
-    if t.times == 0 then reported_by 1 line detail (detail, line)
-    else reported_by (min (t.times + 1) most_times) t.first t.detail (greater (t.worst, t.worst_at) line detail)
+    if t.times == 0 then occurrences_with 1 line detail (detail, line)
+    else occurrences_with (min (t.times + 1) most_times) t.first t.detail (greater (t.worst, t.worst_at) line detail)
 
 -- that of one mark
 unfoldable pub reported_at : List Noted → Key → Occurrences

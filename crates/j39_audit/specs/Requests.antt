@@ -43,14 +43,14 @@ later_time None before = before
 later_time (Some time) None = Some time
 later_time (Some time) (Some before) = Some (max time before)
 
-abbrev pub with_key : Key → Option ℕ → (Key → Option ℕ) → Key → Option ℕ
-with_key key one table other = if is_same_key key other then one else table other
+abbrev pub with_time_of : Key → Option ℕ → (Key → Option ℕ) → Key → Option ℕ
+with_time_of key one table other = if is_same_key key other then one else table other
 
 -- with one of this time
 abbrev pub with_request_of : Key → Option ℕ → GroupRequests → GroupRequests
 with_request_of key time r = record {
-  ever = with_key key (Some 0) r.ever;
-  newest = with_key key (later_time time (r.newest key)) r.newest;
+  ever = with_time_of key (Some 0) r.ever;
+  newest = with_time_of key (later_time time (r.newest key)) r.newest;
 }
 
 -- the number is that of a group of the plan
@@ -80,11 +80,11 @@ is_in_time s t time None = false
 is_in_time s t time (Some request) = nat_le time (request + longest_us t longest_reply_ms + 2 * logger_error s)
 
 -- a message of this time was asked for by such requests
-abbrev pub is_asked_by : Settings → Option ℕ → Key → GroupRequests → Bool
-is_asked_by s None key r = is_some (r.ever key)
-is_asked_by s (Some time) key r = option_map_or (λ (t : Timing). is_in_time s t time (r.newest key)) s.plan.timing false
+abbrev pub is_requested_by : Settings → Option ℕ → Key → GroupRequests → Bool
+is_requested_by s None key r = is_some (r.ever key)
+is_requested_by s (Some time) key r = option_map_or (λ (t : Timing). is_in_time s t time (r.newest key)) s.plan.timing false
 
 -- by ones of its number to all, or to its source
-unfoldable pub is_asked_for : Settings → Option ℕ → GroupRequests → Bool → ℕ → ℕ → Bool
-is_asked_for s time r besides number source =
-    is_asked_by s time (request_key besides number global_address) r || is_asked_by s time (request_key besides number source) r
+unfoldable pub is_requested : Settings → Option ℕ → GroupRequests → Bool → ℕ → ℕ → Bool
+is_requested s time r besides number source =
+    is_requested_by s time (request_key besides number global_address) r || is_requested_by s time (request_key besides number source) r

@@ -9,7 +9,7 @@ ghost use Rattle.j39_audit.specs.inside.Recalling.{taken_in};
 
 use crate::basis::Basis;
 use crate::places::{kept_at, nothing_kept};
-use crate::requests::Requests;
+use crate::requests::HeardRequests;
 use j39_id::Frame;
 use std::alloc::{AllocError, Global};
 
@@ -23,7 +23,7 @@ pub(crate) struct Known {
     pub taken: Vec<bool>,
     pub least: Vec<Option<u64>>,
     pub claimed: Vec<bool>,
-    pub requests: Requests,
+    pub requests: HeardRequests,
 }
 
 // Of so many none is set.
@@ -62,7 +62,7 @@ impl Known {
             taken,
             least,
             claimed,
-            requests: Requests::new(alloc),
+            requests: HeardRequests::new(alloc),
         })
     }
 

@@ -1,7 +1,7 @@
 //! Requests for groups, and what was asked for by them.
 ghost use Rattle.std.specs.Prelude.{◌≡◌, ◌<◌, ◌^◌, IfSome, OnOk, None};
 ghost use Rattle.j39_audit.specs.Counting.{Key, key_of};
-ghost use Rattle.j39_audit.specs.Requests.{GroupRequests as SomeRequests, asks_for_planned, is_asked_by, is_asked_for};
+ghost use Rattle.j39_audit.specs.Requests.{GroupRequests as SomeRequests, asks_for_planned, is_requested_by, is_requested};
 ghost use Rattle.j39_audit.specs.Requests.{is_in_time, is_planned_number as is_number};
 ghost use Rattle.j39_audit.specs.Requests.{later_time, request_mark, requests_before, requests_behind, with_request};
 ghost use Rattle.j39_audit.specs.Requests.{with_request_of};
@@ -22,7 +22,7 @@ const LONGEST_REPLY_MS: u32 = 1_250;
 /// Of each number of a group and destination, whether it was asked for, and the newest time at which it was since times
 /// began anew: so by all requests, and by those that are none of the plan's; and the time of the frame at hand.
 #[derive(Drop)]
-pub(crate) struct Requests {
+pub(crate) struct HeardRequests {
     pub ever: Earliest,
     pub newest: Earliest,
     pub time: Option<u64>,
@@ -84,13 +84,13 @@ fn is_in_time(basis: &Basis<'_>, timing: Timing, time: u64, request: Option<u64>
     }
 }
 
-impl Requests {
+impl HeardRequests {
     pub fn new(alloc: Global) -> Self
         ensures ever { (key : Key) → earliest_in result.ever key ≡ None }
         ensures newest { (key : Key) → earliest_in result.newest key ≡ None }
         ensures time { result.time ≡ None }
     {
-        Requests {
+        HeardRequests {
             ever: Earliest::new(alloc),
             newest: Earliest::new(alloc),
             time: None,
@@ -160,8 +160,8 @@ impl Requests {
     }
 
     // Whether a message in the frame at hand was asked for by requests of this mark.
-    fn is_asked_by(&self, basis: &Basis<'_>, mark: Mark) -> bool
-        ensures { result ≡ is_asked_by (settings_of basis.now) self.now.time (key_of mark) (requests_in self.now) }
+    fn is_requested_by(&self, basis: &Basis<'_>, mark: Mark) -> bool
+        ensures { result ≡ is_requested_by (settings_of basis.now) self.now.time (key_of mark) (requests_in self.now) }
     {
         let Some(time) = self.time else {
             return self.ever.of(mark).is_some();
@@ -174,12 +174,12 @@ impl Requests {
 
     /// Whether a message of this number in the frame at hand, from this source, was asked for: by any, or by none of
     /// the plan's.
-    #[tactic(auto, unfolding(crate::specs::Requests::is_asked_for))]
+    #[tactic(auto, unfolding(crate::specs::Requests::is_requested))]
     pub fn have_asked_for(&self, basis: &Basis<'_>, besides: bool, number: u32, source: u8) -> bool
-        ensures { result ≡ is_asked_for (settings_of basis.now) self.now.time
+        ensures { result ≡ is_requested (settings_of basis.now) self.now.time
             (requests_in self.now) besides number source }
     {
-        self.is_asked_by(basis, request_mark(besides, number, GLOBAL_ADDRESS))
-            || self.is_asked_by(basis, request_mark(besides, number, source))
+        self.is_requested_by(basis, request_mark(besides, number, GLOBAL_ADDRESS))
+            || self.is_requested_by(basis, request_mark(besides, number, source))
     }
 }

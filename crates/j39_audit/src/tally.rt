@@ -1,6 +1,6 @@
 //! How often what was found, and at which line first.
 ghost use Rattle.std.specs.Prelude.{◌≡◌, ◌<◌, ◌^◌, ◌+◌, ◌∷◌, [], min, OnOk};
-ghost use Rattle.j39_audit.specs.Counting.{greater, key_of, most_times, noted_by, reported_by, reported_more};
+ghost use Rattle.j39_audit.specs.Counting.{greater, key_of, most_times, noted_by, occurrences_with, reported_more};
 ghost use Rattle.j39_audit.specs.MessageStreams.{nothing_sighted, sighted_as};
 ghost use Rattle.j39_audit.specs.Pauses.{unclear_as};
 ghost use Rattle.j39_audit.specs.inside.Recalling.{AreCounted, Notes, tallied_at};
@@ -91,7 +91,7 @@ fn note_unclear(unclear: &mut Vec<usize>, mark: Mark) -> Result<(), AllocError>
 
 // With one line more, of something that was found.
 fn again(old: Occurrences, line: u64, detail: u64) -> Occurrences
-    ensures { result ≡ reported_by (min (old.times + 1) most_times) old.first old.detail
+    ensures { result ≡ occurrences_with (min (old.times + 1) most_times) old.first old.detail
         (greater (old.worst, old.worst_at) line detail) }
 {
     let times = old.times.saturating_add(1);

@@ -25,7 +25,7 @@ use Rattle.j39_audit.specs.declared.pauses.LastFrame.{LastFrame}
 use Rattle.j39_audit.specs.declared.pauses.Newest.{Newest}
 use Rattle.j39_audit.specs.declared.pauses.Pauses.{Pauses}
 use Rattle.j39_audit.specs.Requests.{GroupRequests}
-use Rattle.j39_audit.specs.declared.requests.Requests.{Requests as KeptRequests}
+use Rattle.j39_audit.specs.declared.requests.HeardRequests.{HeardRequests as KeptRequests}
 use Rattle.j39_audit.specs.declared.senders.SureSender.{SureSender}
 use Rattle.j39_audit.specs.declared.senders.SureSender.TheVariants.{Unit as OfUnit, Nobody, Unknown}
 use Rattle.j39_audit.specs.declared.tally.MarkTally.{MarkTally}

@@ -3,7 +3,7 @@ use Rattle.std.specs.Prelude.{nat_lt}
 use Rattle.std.proofs.lemmas.Bool.{cases_lt}
 use Rattle.std.proofs.lemmas.List.{get_or_past}
 use Rattle.j39_audit.specs.Settings.{moves}
-use Rattle.j39_audit.specs.declared.requests.Requests.{Requests}
+use Rattle.j39_audit.specs.declared.requests.HeardRequests.{HeardRequests}
 use Rattle.j39_audit.specs.inside.Recalling.{settings_of}
 use Rattle.j39_audit.proofs.Knowing.{forgot, forgot_past, still_requested}
 use Rattle.j39_audit.proofs.known.Known.break_off.Goals as goal
@@ -30,5 +30,5 @@ returns c = λ claims knows.
       least = λ a. ap (λ (t : Vec (Option ℕ) Global). slice_index_or t.items a None) before.least ∙ knows.least a;
       claimed = λ u a. ap (λ (t : Vec Bool Global). nat_lt a 256 && slice_index_or t.items (u * 256 + a) false) before.claimed ∙ knows.claimed u a;
       requests = still_requested old.requests _ claims.requests before.requests knows.requests;
-      time = ap (λ (r : Requests). r.time) before.requests ∙ knows.time;
+      time = ap (λ (r : HeardRequests). r.time) before.requests ∙ knows.time;
     }

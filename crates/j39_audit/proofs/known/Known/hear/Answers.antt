@@ -5,7 +5,7 @@ use Rattle.std.proofs.lemmas.Bool.{cases_eq}
 use Rattle.j39_audit.specs.Claiming.{smaller_name, with_claim}
 use Rattle.j39_audit.specs.Settings.{moves}
 use Rattle.j39_audit.specs.inside.Recalling.{KnowsClaims, last_in, least_in, settings_of, taken_in}
-use Rattle.j39_audit.specs.declared.requests.Requests.{Requests}
+use Rattle.j39_audit.specs.declared.requests.HeardRequests.{HeardRequests}
 use Rattle.j39_audit.proofs.Knowing.{claimed_more, claimed_same, heard_here, heard_least, heard_none, heard_other, taken_here, taken_other, still_requested}
 use Rattle.j39_audit.proofs.known.Known.hear.Goals as goal
 
@@ -55,7 +55,7 @@ returns-in-Some c = λ claims knows.
           (knows.claimed u a);
       requests = still_requested c.args.self.now.requests new.requests claims.requests
           (claimed.requests ∙ reported_in.requests ∙ named.requests) knows.requests;
-      time = ap (λ (r : Requests). r.time) (claimed.requests ∙ reported_in.requests ∙ named.requests) ∙ knows.time;
+      time = ap (λ (r : HeardRequests). r.time) (claimed.requests ∙ reported_in.requests ∙ named.requests) ∙ knows.time;
     })
 
 pub returns-in-None : goal.returns-in-None
@@ -93,5 +93,5 @@ returns-in-None c = λ claims knows.
       claimed = λ u a. claimed_same u a source name claims.all _
           (ap (λ (t : Vec Bool Global). nat_lt a 256 && slice_index_or t.items (u * 256 + a) false) claimed ∙ knows.claimed u a);
       requests = still_requested c.args.self.now.requests new.requests claims.requests (reported_in.requests ∙ named.requests) knows.requests;
-      time = ap (λ (r : Requests). r.time) (reported_in.requests ∙ named.requests) ∙ knows.time;
+      time = ap (λ (r : HeardRequests). r.time) (reported_in.requests ∙ named.requests) ∙ knows.time;
     })
