@@ -11,7 +11,7 @@ use Rattle.j39_load.specs.AskedFlows.{asked_every, asking_periods, is_answering,
 use Rattle.j39_network.specs.declared.plan.flow_plan.FlowPlan.{FlowPlan}
 use Rattle.j39_network.specs.declared.plan.pace.Pace.{Pace}
 use Rattle.j39_network.specs.declared.plan.request_plan.RequestPlan.{RequestPlan}
-use Rattle.j39_audit.specs.QueueTimes.{is_asked_oftener, queued_within}
+use Rattle.j39_audit.specs.QueueTimes.{is_asked_oftener, longest_queueing}
 use Rattle.j39_audit.specs.inside.AskedWithin.{is_each_within}
 
 -- ---- periods
@@ -68,16 +68,16 @@ module _ (requests : List RequestPlan) (flow : FlowPlan) (pace : Pace) (paced : 
       ∙ by_periods flow.on_request periods pace.period some
       ∙ sym (ap (λ (b : Bool). nat_lt 1 n || b) (any_period pace.period (asked_every flow) requests))
 
-  pub queued_unasked : askers_of requests flow ≡ 0 → queued_within requests flow pace ≡ Some pace.jitter
-  unfolding queued_within
+  pub queued_unasked : askers_of requests flow ≡ 0 → longest_queueing requests flow pace ≡ Some pace.jitter
+  unfolding longest_queueing
   queued_unasked none =
       let answers : is_answering requests flow ≡ false = answers_by ∙ ap (λ (n : ℕ). not (n == 0)) none in
       ap (λ (b : Bool). cond (not b) (Some pace.jitter) (cond (is_asked_oftener requests flow) None (Some (answered_within pace)))) answers
 
   pub queued_asked : askers_of requests flow ≢ 0 → (several : Bool)
       → (nat_lt 1 (askers_of requests flow) || list_any (λ (r : RequestPlan). is_each_within pace.period (asked_every flow r)) requests) ≡ several
-      → queued_within requests flow pace ≡ cond several None (Some (answered_within pace))
-  unfolding queued_within
+      → longest_queueing requests flow pace ≡ cond several None (Some (answered_within pace))
+  unfolding longest_queueing
   queued_asked some several is =
       let answers : is_answering requests flow ≡ true = answers_by ∙ ap not (ne_eqb (askers_of requests flow) 0 some) in
       ap (λ (b : Bool). cond (not b) (Some pace.jitter) (cond (is_asked_oftener requests flow) None (Some (answered_within pace)))) answers

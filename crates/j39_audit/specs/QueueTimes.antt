@@ -15,18 +15,18 @@ is_asked_oftener requests flow = nat_lt 1 (askers_of requests flow) || is_asked_
 
 -- a message of a flow of this pace is queued within the jitter; one that answers a request within the time that a unit has for answers, from the moment of
 -- the request on
-unfoldable pub queued_within : List RequestPlan → FlowPlan → Pace → Option ℕ
-queued_within requests flow pace =
+unfoldable pub longest_queueing : List RequestPlan → FlowPlan → Pace → Option ℕ
+longest_queueing requests flow pace =
     if not (is_answering requests flow) then Some pace.jitter
     else if is_asked_oftener requests flow then None else Some (answered_within pace)
 
-abbrev pub queue_time : List RequestPlan → FlowPlan → Option ℕ
-queue_time requests flow = option_and_then (queued_within requests flow) flow.pace
+abbrev pub queueing_of : List RequestPlan → FlowPlan → Option ℕ
+queueing_of requests flow = option_and_then (longest_queueing requests flow) flow.pace
 
 -- of the flow at a place
 unfoldable pub queue_time_of : Plan → ℕ → Option ℕ
-queue_time_of plan n = option_and_then (queue_time plan.requests.items) (slice_get plan.flows.items n)
+queue_time_of plan n = option_and_then (queueing_of plan.requests.items) (slice_get plan.flows.items n)
 
 -- those of all flows of a plan
 abbrev pub AreQueueTimes : Plan → List (Option ℕ) → Type 0
-AreQueueTimes plan times = times ≡ map (queue_time plan.requests.items) plan.flows.items
+AreQueueTimes plan times = times ≡ map (queueing_of plan.requests.items) plan.flows.items

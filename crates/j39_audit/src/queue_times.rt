@@ -4,7 +4,7 @@ ghost use Rattle.std.specs.List.{list_any};
 ghost use Rattle.j39_load.specs.AskedFlows.{asked_every as every_asked};
 ghost use Rattle.j39_network.specs.PlanLimits.{request_limit};
 ghost use Rattle.j39_network.specs.declared.plan.request_plan.RequestPlan.{RequestPlan as APlannedRequest};
-ghost use Rattle.j39_audit.specs.QueueTimes.{AreQueueTimes, queue_time, queued_within};
+ghost use Rattle.j39_audit.specs.QueueTimes.{AreQueueTimes, queueing_of, longest_queueing};
 ghost use Rattle.j39_audit.specs.inside.AskedWithin.{is_each_within};
 
 use j39_load::{answered_within, asked_every, askers_of};
@@ -29,10 +29,10 @@ fn is_asked_within(requests: &[RequestPlan], flow: &FlowPlan, period: u16) -> bo
 }
 
 // Within how many milliseconds a message of a flow of this pace is queued.
-fn queued_within(requests: &[RequestPlan], flow: &FlowPlan, pace: Pace) -> Option<u16>
+fn longest_queueing(requests: &[RequestPlan], flow: &FlowPlan, pace: Pace) -> Option<u16>
     requires paced { flow.now.pace ≡ Some pace }
     requires few { length requests.now ≤ request_limit }
-    ensures { result ≡ queued_within requests.now flow.now pace }
+    ensures { result ≡ longest_queueing requests.now flow.now pace }
 {
     let askers = askers_of(requests, flow);
     if askers == 0 {
@@ -46,12 +46,12 @@ fn queued_within(requests: &[RequestPlan], flow: &FlowPlan, pace: Pace) -> Optio
 }
 
 // Of a flow, if it has a period.
-fn queue_time(requests: &[RequestPlan], flow: &FlowPlan) -> Option<u16>
+fn queueing_of(requests: &[RequestPlan], flow: &FlowPlan) -> Option<u16>
     requires { length requests.now ≤ request_limit }
-    ensures { result ≡ queue_time requests.now flow.now }
+    ensures { result ≡ queueing_of requests.now flow.now }
 {
     match flow.pace {
-        Some(pace) => queued_within(requests, flow, pace),
+        Some(pace) => longest_queueing(requests, flow, pace),
         None => None,
     }
 }
@@ -63,11 +63,11 @@ fn queue_times_by(
     flows: &[FlowPlan],
 ) -> Result<Vec<Option<u16>>, AllocError>
     requires { length requests.now ≤ request_limit }
-    ensures { IfOk result (λ times. times.items ≡ map (queue_time requests.now) flows.now) }
+    ensures { IfOk result (λ times. times.items ≡ map (queueing_of requests.now) flows.now) }
 {
     let mut times = Vec::new(alloc);
     for flow in flows {
-        times.push(queue_time(requests, flow))?;
+        times.push(queueing_of(requests, flow))?;
     }
     Ok(times)
 }

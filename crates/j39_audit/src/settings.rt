@@ -49,7 +49,7 @@ impl<'a> Basis<'a> {
 
     /// Within how many milliseconds of its moment a message of the flow at a place is queued, where this is known.
     #[tactic(auto, unfolding(crate::specs::QueueTimes::queue_time_of))]
-    pub fn queue_time(&self, place: usize) -> Option<u16>
+    pub fn queueing_of(&self, place: usize) -> Option<u16>
         ensures { result ≡ queue_time_of (settings_of self.now).plan place }
     {
         if place < self.queue_times.len() {

@@ -230,7 +230,7 @@ fn flow_stream(
     let flow = basis.plan.flows.get(place)?;
     let pace = flow.pace?;
     let group = basis.plan.groups.get(flow.group)?;
-    let time = basis.queue_time(place)?;
+    let time = basis.queueing_of(place)?;
     let pause = stream_pause(basis, timing, place);
     paced_stream(basis, timing, frame, place, group, pace, time, pause)
 }

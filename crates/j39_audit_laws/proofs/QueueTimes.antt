@@ -11,7 +11,7 @@ use Rattle.j39_network.specs.declared.plan.flow_plan.FlowPlan.{FlowPlan}
 use Rattle.j39_network.specs.declared.plan.pace.Pace.{Pace}
 use Rattle.j39_network.specs.declared.plan.timing.Timing.{Timing}
 use Rattle.j39_audit.specs.MessageStreams.{sent_within}
-use Rattle.j39_audit.specs.QueueTimes.{is_asked_oftener, queue_time, queue_time_of, queued_within}
+use Rattle.j39_audit.specs.QueueTimes.{is_asked_oftener, queueing_of, queue_time_of, longest_queueing}
 use Rattle.j39_audit.specs.Settings.{Settings, response_of}
 use Rattle.j39_audit.specs.UnitTimes.{longest_us}
 
@@ -21,10 +21,10 @@ module _ (plan : Plan) (flow : FlowPlan) where
 
   pub queued_in_jitter : (n : ℕ) (pace : Pace) → slice_get plan.flows.items n ≡ Some flow → flow.pace ≡ Some pace
       → is_answering plan.requests.items flow ≡ false → queue_time_of plan n ≡ Some pace.jitter
-  unfolding queue_time_of queued_within
+  unfolding queue_time_of longest_queueing
   queued_in_jitter n pace its paced none =
-      ap (λ (o : Option FlowPlan). option_and_then (queue_time plan.requests.items) o) its
-      ∙ ap (λ (o : Option Pace). option_and_then (queued_within plan.requests.items flow) o) paced
+      ap (λ (o : Option FlowPlan). option_and_then (queueing_of plan.requests.items) o) its
+      ∙ ap (λ (o : Option Pace). option_and_then (longest_queueing plan.requests.items flow) o) paced
       ∙ ap (λ (b : Bool). cond (not b) (Some pace.jitter) (cond (is_asked_oftener plan.requests.items flow) None (Some (answered_within pace)))) none
 
 -- no time more than the jitter

@@ -7,8 +7,8 @@ use Rattle.j39_load.specs.AskedFlows.{asked_every}
 use Rattle.j39_network.specs.declared.plan.request_plan.RequestPlan.{RequestPlan}
 use Rattle.j39_audit.specs.inside.AskedWithin.{is_each_within}
 use Rattle.j39_audit.proofs.QueueTimes.{queued_asked, queued_unasked}
-use Rattle.j39_audit.proofs.queue_times.queued_within.Goals as goal
-use Rattle.j39_audit.proofs.queue_times.queued_within.Goals.{then-askers-gt1, else-askers-gt1}
+use Rattle.j39_audit.proofs.queue_times.longest_queueing.Goals as goal
+use Rattle.j39_audit.proofs.queue_times.longest_queueing.Goals.{then-askers-gt1, else-askers-gt1}
 
 pub returns-then-askers-eq0 : goal.returns-then-askers-eq0
 returns-then-askers-eq0 c =
