@@ -1,10 +1,10 @@
 -- Who is at an address by the claims of a log, and which addresses are a unit's.
 use Rattle.std.proofs.Common.{◌≡◌, ◌≢◌, ℕ, zero, suc, ◌<◌, ◌==◌, ◌&&◌, ◌||◌, ◌++◌, ◌∷◌, [], All, Any, List, Bool, true, false, not, length}
-use Rattle.std.proofs.Common.{Option, Some, None, if◌then◌else◌, inl, inr, refl, sym, ap, ◌∙◌, subst, arith, eqb-true}
+use Rattle.std.proofs.Common.{Option, Some, None, inl, inr, refl, sym, ap, ◌∙◌, subst, arith, eqb-true}
 use Rattle.std.specs.FinSet.{contains}
 use Rattle.std.specs.List.{list_any, slice_get}
 use Rattle.std.specs.Prelude.{is_none}
-use Rattle.std.proofs.lemmas.Bool.{MatchBool-at_false, and_from, and_parts, cases_Bool, cond-false, cond-true, eq-eqb, false_from_ne_true, ne_eqb}
+use Rattle.std.proofs.lemmas.Bool.{MatchBool-at_false, and_from, and_parts, cond-false, cond-true, eq-eqb, false_from_ne_true, ne_eqb}
 use Rattle.std.proofs.lemmas.Bool.{ltb-true, not-true, or_cases, or_left, true≢false}
 use Rattle.std.proofs.lemmas.List.Elements.{All-head, All-tail}
 use Rattle.std.proofs.lemmas.List.Folds.{Any-from_list_any, list_any-from_Any}
@@ -13,7 +13,7 @@ use Rattle.j39_id.specs.Name.{is_arbitrary}
 use Rattle.j39_network.specs.declared.plan.unit_plan.UnitPlan.{UnitPlan}
 use Rattle.j39_audit.specs.Below.{any_below, first_below}
 use Rattle.j39_audit.specs.Claiming.{Heard, HeardClaims, Knowledge, first_there, has_strangers, is_address_of, is_another_there, is_at, is_claimed_last}
-use Rattle.j39_audit.specs.Claiming.{is_free_for, is_strange, is_strangers, knowledge, last_claim_of, may_be, may_stand, newest_of, sender_at, sure_sender}
+use Rattle.j39_audit.specs.Claiming.{is_free_for, is_strange, knowledge, may_be, may_stand, newest_of, sender_at, sure_sender}
 use Rattle.j39_audit.specs.Looking.{is_claiming}
 use Rattle.j39_audit.specs.Settings.{AreMoving, Settings, moves, units_planned}
 use Rattle.j39_audit.specs.declared.senders.SureSender.TheVariants.{Unit as OfUnit, Unknown}

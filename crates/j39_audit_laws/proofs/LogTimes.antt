@@ -1,5 +1,5 @@
 -- Where a log breaks off, where a bit was idle, and which broadcasts count.
-use Rattle.std.proofs.Common.{◌≡◌, ℕ, suc, ◌+◌, ◌*◌, ◌<◌, ◌≤◌, ◌&&◌, ◌||◌, ◌∷◌, [], All, Any, List, Bool, true, false, not, max}
+use Rattle.std.proofs.Common.{◌≡◌, ℕ, suc, ◌+◌, ◌*◌, ◌<◌, ◌≤◌, ◌&&◌, ◌||◌, ◌∷◌, All, List, Bool, true, false, not, max}
 use Rattle.std.proofs.Common.{Option, Some, None, if◌then◌else◌, inl, inr, refl, sym, ap, ◌∙◌, subst, arith}
 use Rattle.std.specs.List.{list_any, slice_get}
 use Rattle.std.specs.Option.{option_map_or}
@@ -17,8 +17,8 @@ use Rattle.j39_follow.specs.LogLines.{moment_of}
 use Rattle.j39_audit.specs.BegunBroadcasts.{is_paced, is_unpaced}
 use Rattle.j39_audit.specs.Breaks.{clock_time}
 use Rattle.j39_audit.specs.Moments.{bit_us, is_apart, leaves_idle}
-use Rattle.j39_audit.specs.SentMessages.{SentMessage, is_fit}
-use Rattle.j39_audit.specs.Settings.{Settings, logger_error}
+use Rattle.j39_audit.specs.SentMessages.{is_fit}
+use Rattle.j39_audit.specs.Settings.{logger_error}
 use Rattle.j39_audit_laws.specs.LogTimes.{BreaksAreByNumbers, BroadcastsArePlanned, DamageMayFillAll, IsGreatest, IsPacedByThePlan, NewestIsGreatest}
 use Rattle.j39_audit_laws.specs.LogTimes.{TimesBegin, TimesNeedTiming}
 use Rattle.j39_audit_laws.proofs.Planned.{any_at, any_found}

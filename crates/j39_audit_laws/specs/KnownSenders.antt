@@ -1,5 +1,5 @@
 -- Who is at an address by the claims of a log, and which addresses are a unit's, in the words of the claims and of the plan.
-use Rattle.std.specs.Prelude.{◌≡◌, ◌≢◌, ◌⊎◌, ◌↔◌, ◌<◌, ℕ, All, Any, List, ◌∷◌, ◌++◌, false, if◌then◌else◌, length, Option, Some, None, true}
+use Rattle.std.specs.Prelude.{◌≡◌, ◌≢◌, ◌⊎◌, ◌↔◌, ◌<◌, ℕ, All, Any, List, ◌∷◌, ◌++◌, false, if◌then◌else◌, length, Some, None, true}
 use Rattle.j39_id.specs.Addresses.{is_address}
 use Rattle.j39_audit.specs.Claiming.{Heard, HeardClaims, knowledge, sender_at}
 use Rattle.j39_audit.specs.Settings.{AreMoving, Settings, moves}
