@@ -47,7 +47,7 @@ fn key_of(ident: Ident, role: &Role) -> u32
 
 impl Sessions {
     /// None yet.
-    #[tactic(auto, unfolding(crate::specs::Recalling::KeepsSessions))]
+    #[tactic(auto, unfolding(crate::specs::KeptSessions::KeepsSessions))]
     pub fn new(alloc: Global) -> Self
         ensures { KeepsSessions result no_sessions }
     {
@@ -57,7 +57,7 @@ impl Sessions {
     }
 
     /// Forgets them all: what comes may be of sessions that the log doesn't show.
-    #[tactic(auto, unfolding(crate::specs::Recalling::KeepsSessions))]
+    #[tactic(auto, unfolding(crate::specs::KeptSessions::KeepsSessions))]
     pub fn forget(&mut self)
         ensures { KeepsSessions self.new no_sessions }
     {
