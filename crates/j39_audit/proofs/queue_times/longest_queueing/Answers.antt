@@ -25,7 +25,8 @@ returns-then-is_asked_within c =
     let several : (nat_lt 1 askers || within) ≡ c.if-askers-gt1.value =
     elim c.if-askers-gt1.branch [
       | then-askers-gt1 w ↦
-          (let more = w.if-askers-gt1.true in ap (λ (b : Bool). b || within) (lt-ltb 1 askers (omega (arith, more, same))) ∙ sym w.value-is)
+          (let more = w.if-askers-gt1.true in ap (λ (b : Bool). b || within) (lt-ltb 1 askers (omega (arith, more, same)))
+          ∙ (sym (lt-ltb 1 c.askers_of-askers.result (omega (arith, more))) ∙ sym w.value-is))
       | else-askers-gt1 w ↦
           (let less = w.if-askers-gt1.false in ap (λ (b : Bool). b || within) (le-ltb 1 askers (omega (arith, less, same)))
           ∙ sym (w.value-is ∙ w.is_asked_within.ensures))
@@ -44,7 +45,8 @@ returns-else-is_asked_within c =
     let several : (nat_lt 1 askers || within) ≡ c.if-askers-gt1.value =
     elim c.if-askers-gt1.branch [
       | then-askers-gt1 w ↦
-          (let more = w.if-askers-gt1.true in ap (λ (b : Bool). b || within) (lt-ltb 1 askers (omega (arith, more, same))) ∙ sym w.value-is)
+          (let more = w.if-askers-gt1.true in ap (λ (b : Bool). b || within) (lt-ltb 1 askers (omega (arith, more, same)))
+          ∙ (sym (lt-ltb 1 c.askers_of-askers.result (omega (arith, more))) ∙ sym w.value-is))
       | else-askers-gt1 w ↦
           (let less = w.if-askers-gt1.false in ap (λ (b : Bool). b || within) (le-ltb 1 askers (omega (arith, less, same)))
           ∙ sym (w.value-is ∙ w.is_asked_within.ensures))
