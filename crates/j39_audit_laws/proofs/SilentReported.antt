@@ -37,11 +37,11 @@ silent_are_found s log text verdict a t timed us clock bus frame keeps on_bus n 
     let inside : n < length s.plan.flows.items = slice_get_within s.plan.flows.items n long.flow long.flow_is in
     elim (cases_eq (look by_bus).times 0) [
       | inl none ↦
-          let is = said s log text verdict a or_late (says s look SilentFlow n 0 13 or_late (omega arith) refl inside (omega arith)
+          let is = said s log text verdict a or_late (says s look SilentFlow n 0 17 or_late (omega arith) refl inside (omega arith)
           (cond-true ((look by_bus).times == 0) or_late by_bus (eq-eqb (look by_bus).times 0 none)) load) in
           (is.findings, (or_late, look or_late, inr refl, is.written))
       | inr some ↦
-          let is = said s log text verdict a by_bus (says s look SilentFlow n 0 13 by_bus (omega arith) refl inside (omega arith)
+          let is = said s log text verdict a by_bus (says s look SilentFlow n 0 17 by_bus (omega arith) refl inside (omega arith)
           (cond-false ((look by_bus).times == 0) or_late by_bus (ne_eqb (look by_bus).times 0 some)) some) in
           (is.findings, (by_bus, look by_bus, inl refl, is.written))
     ]
