@@ -171,9 +171,7 @@ class Comparison:
         """A message of a planned group begins that no flow brings from here to there. Who answers a request isn't accused."""
         if sender.label is None:
             return
-        is_answer = self.asked_for.is_asked(group.pgn, sender.address, at)
-        self.of_premises.takes(sender.label, group.label, line, is_answer)
-        if not is_answer and self.is_unjudged:
+        if self.is_unjudged and not self.asked_for.is_asked(group.pgn, sender.address, at):
             self.found.tell("no-flow", f"{group.label} from {sender.label} to {to.shown}: no flow", line, at, unit=sender.label)
         self.otherwise(at, group.pgn, sender.label)
 

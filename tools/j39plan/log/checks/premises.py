@@ -71,15 +71,6 @@ class Beside:
         self.obeyed: set[tuple[str, int]] = set()  # units that claim an address that they were commanded to, or of which two boxes are told by that
         self.given_back: Counter[str] = Counter()  # how often a unit gave back the address that it held, or had lost to a stranger
         self._urgent: Mapping[str, int] = {} if urgent is None else urgent  # how many frames of planned long messages a unit sends more urgently than what isn't planned
-        self.answered: Counter[tuple[str, str]] = Counter()  # how often a unit answered by a group what no flow brings
-        self.unasked: dict[tuple[str, str], list[int]] = {}  # where it first sent such a message otherwise, and how often
-
-    def takes(self, unit: str, group: str, line: int, is_answer: bool) -> None:
-        """A message comes that no flow brings: an answer to a request, or another one."""
-        if is_answer:
-            self.answered[unit, group] += 1
-        else:
-            self.unasked.setdefault((unit, group), [line, 0])[1] += 1
 
     def asks(self, who: Who, group: str) -> None:
         """Somebody asks for a group."""
@@ -91,8 +82,6 @@ class Beside:
         word, unit = line.word("word"), line.word("unit")
         if word == "urgent":
             return self._urgent.get(unit, 0) == line.number("times")
-        if word == "no_flow":
-            return self.answered[unit, line.word("group")] == line.number("times")
         if word == "nobody":
             return line.number("address") in self.left
         if word == "address":
@@ -112,10 +101,6 @@ class Beside:
 
     def each(self, line: Line) -> list[Line]:
         """A line that accuses, of strangers at an address one for each NAME."""
-        way = line.word("unit"), line.word("group")
-        if line.word("word") == "no_flow" and self.answered[way] and way in self.unasked:
-            first, times = self.unasked[way]
-            return [line._replace(parts={**line.parts, "first": first, "times": times})]
         claims = self.claims.get(line.number("address"), {}) if line.word("word") == "stranger" else {}
         named: list[dict[str, str | int]] = [{"name": f"#{name}", "first": first, "times": times} for name, (first, times) in claims.items()]
         return [line._replace(parts={**line.parts, **parts}) for parts in named] or [line]
