@@ -37,6 +37,7 @@ def random_plan(dice: random.Random) -> Plan:
     requests = [Request(0, 1, 0, dice.choice([10, 9, 100])), Request(0, 2, None, 50), Request(2, 3, 0, 50), Request(1, 2, None, None), Request(2, 0, 2, 20), Request(1, 4, 0, 200)]
     asked = [it for it in requests if dice.random() < 0.3]
     flows = [it._replace(is_asked=dice.random() < 0.2, period=dice.choice([it.period] * 3 + [500])) for it in flows]
+    flows = [it if it.pause is None or it.period <= it.pause else it._replace(pause=it.period + 20) for it in flows]
     return Plan(units, groups, flows, asked, dice.choice([0, 0, 500, 20000]), dice.choice([None, None, (1, 50), (3, 100)]))
 
 

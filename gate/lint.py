@@ -64,10 +64,6 @@ def bytes_of(name: str) -> bytes:
         return file.read()
 
 
-# Libraries that are listed for what was proved over them, and go when these crates are proved anew.
-UNNAMED = {"j39_sessions": ("arrayvec",), "j39_audit_laws": ("j39_sessions",)}
-
-
 def unnamed(crate: str) -> list[str]:
     """The libraries that a crate lists in crates.txt and that none of its files names."""
     texts = []
@@ -75,7 +71,7 @@ def unnamed(crate: str) -> list[str]:
         with open(path, encoding="utf-8") as file:
             texts.append(re.sub(r"(?://|--).*", "", file.read()))
     code = "\n".join(texts)
-    return [it for it in crates.listed()[crate] if it not in UNNAMED.get(crate, ()) and not re.search(rf"\b{it}\b", code)]
+    return [it for it in crates.listed()[crate] if not re.search(rf"\b{it}\b", code)]
 
 
 def equalities(crate: str) -> list[str]:
